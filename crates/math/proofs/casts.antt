@@ -1,0 +1,3 @@
+-- The laws behind `narrow_pattern`. Assumes nothing.
+mod Pattern
+mod Cases

@@ -1,0 +1,3 @@
+-- What the contracts of this crate say. Assumes nothing.
+pub mod Gcd
+pub mod Lowest

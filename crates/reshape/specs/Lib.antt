@@ -1,0 +1,2 @@
+-- What becomes of the history when a rate is set. Assumes nothing.
+pub mod Reshaped

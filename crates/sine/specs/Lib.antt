@@ -1,0 +1,2 @@
+-- The sine, step by step. Assumes nothing.
+pub mod Sine

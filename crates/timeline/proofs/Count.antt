@@ -1,0 +1,91 @@
+-- The count of a closed recording: once all is read, the last output was made below the closing silence's end and the next one would not be.
+-- Assumes nothing.
+use mathlib.Core.Path.{_≡_, refl, sym, _∙_, ap}
+use mathlib.Core.Logic.{inl, inr}
+use mathlib.Core.List.{List, [], _∷_, _++_}
+use Prim.Native.Nat.{ℕ, zero, suc, _+_, _-_, _*_, _/_, _≤_, _<_, min}
+use native.Mathlib.Nat.{div-eq-of-lt-le, div-add-mod', mod-lt, mul-le-mul-left, not-suc-le-zero}
+use native.Mathlib.Omega.{arith}
+use Rattle.timeline.specs.Numbers.{Rate, Place, Called, Fit, chunk, ahead, round, roundsUpTo, rounds, fresh, call}
+use Rattle.timeline.specs.Recording.{Offer, recorded, oneMore, calls}
+use Rattle.timeline.specs.Laws.{Ceiling, upwards}
+use Rattle.timeline.proofs.Places.{below-or-not, ahead-reach, ahead-phase, made-ends}
+use Rattle.timeline.proofs.Turns.{Moved, one-more-moves}
+use Rattle.timeline.proofs.Law.{recorded-moves, recording-law}
+use Rattle.timeline.proofs.Unrolled.{call-plain}
+
+-- the two forms of a quotient rounded up
+pub ceiling-is : {y : ℕ} (x k : ℕ) → 0 < y → Ceiling x y k → k ≡ upwards x y
+ceiling-is {y} x zero h c = sym (div-eq-of-lt-le y (omega arith) (omega (arith, c .enough)))
+ceiling-is {y} x (suc k) h c = sym (div-eq-of-lt-le y (omega (arith, c .least k (omega arith))) (omega (arith, c .enough)))
+
+pub upwards-enough : (x y : ℕ) → 0 < y → x ≤ upwards x y * y
+upwards-enough x y h = omega (arith, div-add-mod' (x + y - 1) y, mod-lt (x + y - 1) h)
+
+-- what lies below position x, with a phase below den, lies below den * x
+under : (den q f x : ℕ) → f < den → q < x → den * q + f < den * x
+under den q f x hf hq = omega (arith, mul-le-mul-left den hq)
+
+-- the last of a list of calls
+pub calls-last : (r : Rate) (len : ℕ) (os : List Offer) (o : Offer) (c : Called)
+    → calls r len (os ++ (o ∷ [])) c ≡ oneMore r len o (calls r len os c)
+calls-last r len [] o c = refl
+calls-last r len (x ∷ os) o c = calls-last r len os o (oneMore r len x c)
+
+module _ (r : Rate) (fit : Fit r) where
+  -- output j of a recording of `len` samples lies below its end
+  below-end : {len : ℕ} {c : Called} (j : ℕ) → Moved r 0 len (fresh r) c → j < c .turn .written
+      → r .den * (r .n / 2) + j * r .num < r .den * len
+  below-end {len} j a l =
+      let q = ahead r j (fresh r) in
+      let phase : q .phase < r .den = ahead-phase r (fit .den) j (fresh r) (fit .den) in
+      let position : q .position < len = omega (arith, a .below j l) in
+      omega (arith, ahead-reach r j (fresh r), under (r .den) (q .position) (q .phase) len phase position)
+
+  -- M samples and the closing n/2
+  module _ (M : ℕ) where
+    pub closed-count : (os : List Offer) → recorded r (M + r .n / 2) os .turn .consumed ≡ M + r .n / 2
+        → Ceiling (M * r .den) (r .num) (recorded r (M + r .n / 2) os .turn .written)
+    closed-count os e =
+        let t = recorded r (M + r .n / 2) os .turn in
+        let f : r .den * t .consumed ≡ r .den * (M + r .n / 2) = ap (λ (x : ℕ). r .den * x) e in
+        record {
+          enough = omega (arith, recording-law r fit (M + r .n / 2) os .law, recording-law r fit (M + r .n / 2) os .phase, f);
+          least = λ j l. omega (arith, below-end j (recorded-moves r fit (M + r .n / 2) os) l);
+        }
+
+  -- rounds that leave room have read all
+  rounds-read : (most inn room : ℕ) (p : Place) → inn ≤ most → roundsUpTo most r inn room p .written < room
+      → roundsUpTo most r inn room p .consumed ≡ inn
+  rounds-read zero inn room p f h = omega arith
+  rounds-read (suc most) zero room p f h = refl
+  rounds-read (suc most) (suc inn) zero p f h = absurd (not-suc-le-zero h)
+  rounds-read (suc most) (suc inn) (suc room) p f h =
+      let i = min (suc inn) (chunk r) in
+      let t = round r i (suc room) p in
+      let full : i ≤ ahead r (t .written) p .position = made-ends r i (suc room) p (omega arith) in
+      let all : t .consumed ≡ i = omega arith in
+      omega (arith, fit .alloc, rounds-read most (suc inn - t .consumed) (suc room - t .written) (t .place) (omega (arith, fit .alloc)) (omega arith))
+
+  pub plain-call-reads : (inn room : ℕ) (p : Place) → call r 0 inn room p .turn .written < room → call r 0 inn room p .turn .consumed ≡ inn
+  plain-call-reads inn room p h =
+      let e = call-plain r inn room p in
+      let w : call r 0 inn room p .turn .written ≡ rounds r inn room p .written = ap (λ (c : Called). c .turn .written) e in
+      ap (λ (c : Called). c .turn .consumed) e ∙ rounds-read inn inn room p (omega arith) (omega arith)
+
+  -- one call more that is offered all, with more room than the count: all is read
+  pub one-more-reads : (M : ℕ) (c : Called) (o : Offer) → Moved r 0 (M + r .n / 2) (fresh r) c
+      → M + r .n / 2 ≤ o .samples → upwards (M * r .den) (r .num) < o .room
+      → oneMore r (M + r .n / 2) o c .turn .consumed ≡ M + r .n / 2
+  one-more-reads M c o a s w =
+      let len = M + r .n / 2 in
+      let inn = min (o .samples) (len - c .turn .consumed) in
+      let d = call r (c .magic) inn (o .room) (c .turn .place) in
+      let z : c .magic ≡ 0 = omega (arith, a .magic) in
+      let k = upwards (M * r .den) (r .num) in
+      elim (below-or-not (d .turn .written) (o .room)) [
+        | inl l ↦
+            (let all : d .turn .consumed ≡ inn = rw z (plain-call-reads inn (o .room) (c .turn .place) (rw z at l)) in
+            omega (arith, a .consumed))
+        | inr g ↦ omega (arith, upwards-enough (M * r .den) (r .num) (fit .num), below-end k (one-more-moves r o c a) (omega arith))
+      ]
