@@ -1,0 +1,211 @@
+// What a source rate, a target rate and a quality row give: the ratio in lowest terms, the filter's
+// length, oversample and cutoff, the kernel and how many coefficients it has.
+//
+// Numbers only: no coefficient is worked out here and no history is touched. Nothing is promised
+// for a row that is not sane or a rate out of limits.
+use ratio::_muldiv;
+use ratio::simplify;
+ghost use mathlib.Core.Path.{_≡_};
+ghost use Prim.Native.Nat.{_≤_};
+ghost use Rattle.rates.specs.Sizes.{InLimits, inLimits, RatioInLimits, historyNeeded, maxHistory};
+ghost use Rattle.rates.specs.Quality.{rowOf, Sane};
+ghost use Rattle.rates.specs.House.{house};
+ghost use Rattle.rates.specs.Setting.{cutoffOf, lengthOf, halved, oversampleOf, kernelOf, coefficientsOf, settingAt, settingOf};
+
+// buffer_size: how many entries a history has beyond the n - 1 that a filter of length n keeps.
+// The house row's base length is 160 too, and has nothing to do with it.
+pub const BUFFER_SIZE: u32 = 160;
+
+// The longest history that any two rates in limits need.
+pub const MAX_HISTORY: usize = 7839;
+
+// The most coefficients that any two rates in limits need.
+pub const MAX_COEFFICIENTS: usize = 7688;
+
+// Whether a rate is from 4,000 to 192,000 Hz, both ends included.
+pub fn in_limits(rate: u32) -> bool
+    ensures { λ r. ⌜ r ≡ inLimits rate ⌝ }
+{
+    4000 <= rate && rate <= 192000
+}
+
+// How long a history a filter of this length needs: at most MAX_HISTORY, which is asked for.
+pub fn history_needed(filt_len: u32) -> u32
+    requires { ⌜ (1 ≤ «filt_len») × (historyNeeded «filt_len» ≤ maxHistory) ⌝ }
+    ensures { λ r. ⌜ r ≡ historyNeeded «filt_len» ⌝ }
+{
+    filt_len - 1 + BUFFER_SIZE
+}
+
+// A quality row: the filter's length and oversample where the rate does not fall, and the
+// bandwidths where it falls and where it does not.
+pub struct QualityMapping {
+    pub base_length: usize,
+    pub oversample: usize,
+    pub downsample_bandwidth: f32,
+    pub upsample_bandwidth: f32,
+}
+
+impl QualityMapping {
+    // The house row. It is written out, since a constant's value cannot call `new`.
+    pub const HOUSE: QualityMapping = QualityMapping {
+        base_length: 160,
+        oversample: 16,
+        downsample_bandwidth: 0.96,
+        upsample_bandwidth: 0.96,
+    };
+
+    // The row of these numbers, sane or not.
+    pub fn new(
+        base_length: usize,
+        oversample: usize,
+        downsample_bandwidth: f32,
+        upsample_bandwidth: f32,
+    ) -> Self
+        ensures { λ r. ⌜ r ≡ rowOf «base_length» oversample «downsample_bandwidth» «upsample_bandwidth» ⌝ }
+    {
+        Self {
+            base_length,
+            oversample,
+            downsample_bandwidth,
+            upsample_bandwidth,
+        }
+    }
+
+    // HOUSE, with the contract that a constant cannot have.
+    pub fn house() -> Self
+        ensures { λ r. ⌜ r ≡ house ⌝ }
+    {
+        QualityMapping::HOUSE
+    }
+}
+
+// What makes an output; `Unset` before a source rate was set.
+pub enum Kernel {
+    Unset,
+    Direct,
+    Interpolated,
+}
+
+// Everything that two rates and a quality row give; `coefs` is how many coefficients there are.
+pub struct Setting {
+    pub num: u32,
+    pub den: u32,
+    pub int_advance: u32,
+    pub frac_advance: u32,
+    pub filt_len: u32,
+    pub oversample: u32,
+    pub coefs: u32,
+    pub cutoff: f32,
+    pub kernel: Kernel,
+}
+
+impl Setting {
+    // What `row` gives for a source and a target rate.
+    pub fn new(row: QualityMapping, source: u32, target: u32) -> Self
+        requires { ⌜ Sane row × InLimits source × InLimits target ⌝ }
+        ensures { λ r. ⌜ r ≡ settingOf row source target ⌝ }
+    {
+        let ratio = simplify(source as u64, target as u64);
+        Setting::at_ratio(row, ratio.num as u32, ratio.den as u32)
+    }
+
+    // The same for a ratio in lowest terms.
+    fn at_ratio(row: QualityMapping, num: u32, den: u32) -> Self
+        requires { ⌜ Sane row × RatioInLimits num den ⌝ }
+        ensures { λ r. ⌜ r ≡ settingAt row num den ⌝ }
+    {
+        let n = filter_length(row, num, den);
+        let oversample = oversampling(row, num, den);
+        let kernel = kernel_for(n, oversample, den);
+        Self {
+            num,
+            den,
+            int_advance: num / den,
+            frac_advance: num % den,
+            filt_len: n,
+            oversample,
+            coefs: coefficients(kernel, n, oversample, den),
+            cutoff: cutoff(row, num, den),
+            kernel,
+        }
+    }
+}
+
+// Two roundings, the product first, as in the Rust; equal rates take the bandwidth of rising ones.
+fn cutoff(row: QualityMapping, num: u32, den: u32) -> f32
+    requires { ⌜ RatioInLimits num den ⌝ }
+    ensures { λ r. ⌜ r ≡ cutoffOf row num den ⌝ }
+{
+    if num > den {
+        return row.downsample_bandwidth * math::small(den) / math::small(num);
+    }
+    row.upsample_bandwidth
+}
+
+// Rounded down, then up to a multiple of 8, which one that is a multiple already stays.
+fn filter_length(row: QualityMapping, num: u32, den: u32) -> u32
+    requires { ⌜ Sane row × RatioInLimits num den ⌝ }
+    ensures { λ r. ⌜ r ≡ lengthOf row num den ⌝ }
+{
+    let base = row.base_length;
+    if num > den {
+        let scaled = _muldiv(base as u64, num as u64, den as u64) as u32;
+        return (scaled + 7) / 8 * 8;
+    }
+    base as u32
+}
+
+// At a small row the halvings can leave 0, which becomes 1.
+fn oversampling(row: QualityMapping, num: u32, den: u32) -> u32
+    requires { ⌜ Sane row × RatioInLimits num den ⌝ }
+    ensures { λ r. ⌜ r ≡ oversampleOf row num den ⌝ }
+{
+    let oversample = row.oversample as u32;
+    if num > den {
+        let left = halve(oversample, num, den);
+        if left < 1 {
+            return 1;
+        }
+        return left;
+    }
+    oversample
+}
+
+// `oversample` halved once for each x of 1, 2, 3 and 4 with 2^x * den < num, so not at all at a
+// ratio of exactly 2.
+fn halve(oversample: u32, num: u32, den: u32) -> u32
+    requires { ⌜ den ≤ 192000 ⌝ }
+    ensures { λ r. ⌜ r ≡ halved num den 4 oversample ⌝ }
+{
+    let mut left = oversample;
+    for x in 1..5u32 {
+        if (1 << x) * den < num {
+            left = left / 2;
+        }
+    }
+    left
+}
+
+// The second test, on the bytes of a direct table, is the Rust's: within the limits it always
+// passes.
+fn kernel_for(n: u32, oversample: u32, den: u32) -> Kernel
+    requires { ⌜ (n ≤ 7680) × (oversample ≤ 16) × (1 ≤ den) × (den ≤ 192000) ⌝ }
+    ensures { λ r. ⌜ r ≡ kernelOf n oversample den ⌝ }
+{
+    if n * den <= n * oversample + 8 && n <= 536870911 / den {
+        return Kernel::Direct;
+    }
+    Kernel::Interpolated
+}
+
+fn coefficients(kernel: Kernel, n: u32, oversample: u32, den: u32) -> u32
+    requires { ⌜ (n ≤ 7680) × (oversample ≤ 16) × (den ≤ 192000) ⌝ }
+    ensures { λ r. ⌜ r ≡ coefficientsOf kernel n oversample den ⌝ }
+{
+    match kernel {
+        Kernel::Unset => 0,
+        Kernel::Direct => n * den,
+        Kernel::Interpolated => n * oversample + 8,
+    }
+}

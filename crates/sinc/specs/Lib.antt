@@ -1,0 +1,2 @@
+-- One coefficient. Assumes nothing.
+pub mod Sinc

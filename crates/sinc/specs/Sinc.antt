@@ -1,0 +1,28 @@
+-- Document 01, "Coefficients": one coefficient. An f32 stands for the same number as an f64, so nothing is written where one is widened.
+-- Assumes nothing.
+use Prim.Native.Nat.{ℕ}
+use mathlib.Core.Bool.{cond}
+use lib.Ieee.{Float, lt}
+use Rattle.math.specs.Narrowed.{narrowed}
+use Rattle.math.specs.Numerals.{nought, asF64, decimal64}
+use Rattle.math.specs.Operators.{_*ᵈ_, _/ᵈ_, _*ᶠ_}
+use Rattle.math.specs.Sign.{magnitude}
+use Rattle.sine.specs.Sine.{C, sineAt}
+use Rattle.window.specs.Window.{windowAt}
+
+-- where the window is asked for x, with a filter of length n: |2 x / n| rounded to f32
+unfoldable pub placeAt : Float → ℕ → Float
+placeAt x n = narrowed (magnitude (asF64 2 *ᵈ x /ᵈ asF64 n))
+
+-- (cutoff * sin(angle)) / angle, times the window, rounded to f32; the angle is pi times the f32 product of x and cutoff
+unfoldable pub windowedSinc : Float → Float → ℕ → Float
+windowedSinc cutoff x n =
+    let angle = C *ᵈ (x *ᶠ cutoff) in
+    narrowed (cutoff *ᵈ sineAt angle /ᵈ angle *ᵈ windowAt (placeAt x n))
+
+-- the coefficient at x: with |x| < 0.000001 cutoff, with |x| > n/2 zero, else the windowed sinc
+unfoldable pub sincAt : Float → Float → ℕ → Float
+sincAt cutoff x n =
+    cond (lt (magnitude x) (decimal64 6 1)) cutoff
+    (cond (lt (decimal64 1 5 *ᵈ asF64 n) (magnitude x)) nought
+    (windowedSinc cutoff x n))

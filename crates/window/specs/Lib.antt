@@ -1,0 +1,2 @@
+-- The Kaiser window. Assumes nothing.
+pub mod Window
