@@ -3,4 +3,3 @@ pub mod Numbers
 pub mod Real
 pub mod Limits
 pub mod House
-pub mod Worked

@@ -5,4 +5,3 @@ pub mod House
 pub mod Setting
 pub mod Limits
 pub mod Rated
-pub mod Worked

@@ -2,9 +2,9 @@
 use mathlib.Core.Path.{refl}
 use Rattle.ratio.specs.Gcd.{gcdOf}
 use Rattle.ratio.specs.Lowest.{lowest}
 use Rattle.rates.specs.House.{house}
 use Rattle.rates.specs.Setting.{settingOf, lengthOf, oversampleOf, kernelOf, coefficientsOf}
-use Rattle.rates.specs.Worked.{Worked, ClosedTotals}
+use Rattle.worked.specs.Worked.{Worked, ClosedTotals}
 
 pub worked : Worked
 unfolding house settingOf lowest gcdOf lengthOf oversampleOf kernelOf coefficientsOf

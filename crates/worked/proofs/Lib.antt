@@ -1,0 +1,2 @@
+-- The worked numbers, computed. Assumes nothing.
+pub mod Worked

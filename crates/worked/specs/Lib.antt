@@ -1,0 +1,2 @@
+-- The worked numbers of document 01. Assumes nothing.
+pub mod Worked
