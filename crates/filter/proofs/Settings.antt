@@ -6,7 +6,7 @@ use native.Mathlib.Nat.{le-trans, lt-of-lt-of-le}
 use lib.Dec.{lit≤, lit<}
 use lib.ListN.{length, drop}
 use lib.Ieee.{Float}
-use Rattle.rates.specs.Sizes.{InLimits}
+use Rattle.sizes.specs.Sizes.{InLimits}
 use Rattle.rates.specs.Quality.{Sane}
 use Rattle.rates.specs.Setting.{coefficientsOf, settingAt, settingOf}
 use Rattle.rates.specs.declared.QualityMapping.{QualityMapping}

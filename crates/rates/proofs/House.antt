@@ -2,7 +2,7 @@
 use mathlib.Core.Path.{refl}
 use Prim.Native.Nat.{ℕ, _≤_}
 use native.Mathlib.Omega.{arith}
-use Rattle.rates.specs.Sizes.{InLimits}
+use Rattle.sizes.specs.Sizes.{InLimits}
 use Rattle.rates.specs.Quality.{Sane}
 use Rattle.rates.specs.House.{house}
 use Rattle.rates.specs.Setting.{settingOf}

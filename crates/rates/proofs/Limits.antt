@@ -1,14 +1,10 @@
 -- Any sane row and any two rates in limits give numbers within the limits. Assumes nothing.
-use mathlib.Core.Path.{_≡_, refl, sym}
-use mathlib.Core.Bool.{Bool, true, false, _&&_, true≢false}
 use Prim.Native.Nat.{ℕ, _*_, _≤_, _<_}
 use native.Mathlib.Nat.{mul-le-mul-left, mul-le-mul-right, mod-lt, div-le-of-le-mul}
 use native.Mathlib.Omega.{arith}
-use lib.Dec.{leb}
-use borrow.Author.Tests.{leb-true, le-leb}
 use Rattle.ratio.specs.Lowest.{lowest}
 use Rattle.ratio.proofs.Laws.{num-bounds, den-bounds, same-ratio}
-use Rattle.rates.specs.Sizes.{InLimits, inLimits, RatioInLimits, historyNeeded}
+use Rattle.sizes.specs.Sizes.{InLimits, RatioInLimits, historyNeeded}
 use Rattle.rates.specs.Quality.{Sane}
 use Rattle.rates.specs.Setting.{lengthOf, oversampleOf, settingAt, settingOf}
 use Rattle.rates.specs.Limits.{Limits}
@@ -18,21 +14,6 @@ use Rattle.rates.specs.declared.Setting.{Setting}
 use Rattle.timeline.specs.Numbers.{Fit}
 use Rattle.rates.proofs.Numbers.{length-by-8, length-from, length-to, ratio-to, oversample-from, oversample-to, table-to, kernel-is, coefficients-to}
 use Rattle.rates.proofs.Real.{cutoff-real}
-
--- ---- the test and what it means
-both : (a b : Bool) → a && b ≡ true → (a ≡ true) × (b ≡ true)
-both true b e = (refl, e)
-both false b e = absurd (true≢false (sym e))
-
-pub test-passed : (rate : ℕ) → inLimits rate ≡ true → InLimits rate
-unfolding inLimits
-test-passed rate e =
-    let p = both (leb 4000 rate) (leb rate 192000) e in
-    record { low = leb-true 4000 rate (p .0); high = leb-true rate 192000 (p .1) }
-
-pub test-passes : (rate : ℕ) → InLimits rate → inLimits rate ≡ true
-unfolding inLimits
-test-passes rate h = rw (le-leb 4000 rate (h .low), le-leb rate 192000 (h .high))
 
 -- ---- the terms of two rates in limits
 pub ratio-in-limits : (source target : ℕ) → InLimits source → InLimits target

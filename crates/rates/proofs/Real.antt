@@ -11,7 +11,7 @@ use lib.Ieee.Positive.{positive, positive-of-value}
 use lib.Ieee.Scale.{finite}
 use Rattle.math.specs.Numerals.{asF32}
 use Rattle.math.specs.Operators.{_*ᶠ_, _/ᶠ_}
-use Rattle.rates.specs.Sizes.{RatioInLimits}
+use Rattle.sizes.specs.Sizes.{RatioInLimits}
 use Rattle.rates.specs.Quality.{Sane}
 use Rattle.rates.specs.Setting.{cutoffOf}
 use Rattle.rates.specs.declared.QualityMapping.{QualityMapping}

@@ -1,5 +1,4 @@
 -- What the contracts of this crate say, in document 01's order. Assumes nothing.
-pub mod Sizes
 pub mod Quality
 pub mod House
 pub mod Setting

@@ -5,7 +5,7 @@ use mathlib.Core.Bool.{false, cond}
 use Prim.Native.Nat.{_+_, _*_, _/_, _%_, _≤_, _<_}
 use lib.Dec.{leb}
 use lib.Ieee.{isNan}
-use Rattle.rates.specs.Sizes.{RatioInLimits, historyNeeded, maxHistory, maxCoefficients}
+use Rattle.sizes.specs.Sizes.{RatioInLimits, historyNeeded, maxHistory, maxCoefficients}
 use Rattle.rates.specs.declared.QualityMapping.{QualityMapping}
 use Rattle.rates.specs.declared.Kernel.the-variants.{Direct, Interpolated}
 use Rattle.rates.specs.declared.Setting.{Setting}

@@ -7,35 +7,10 @@ use ratio::_muldiv;
 use ratio::simplify;
 ghost use mathlib.Core.Path.{_≡_};
 ghost use Prim.Native.Nat.{_≤_};
-ghost use Rattle.rates.specs.Sizes.{InLimits, inLimits, RatioInLimits, historyNeeded, maxHistory};
+ghost use Rattle.sizes.specs.Sizes.{InLimits, RatioInLimits};
 ghost use Rattle.rates.specs.Quality.{rowOf, Sane};
 ghost use Rattle.rates.specs.House.{house};
 ghost use Rattle.rates.specs.Setting.{cutoffOf, lengthOf, halved, oversampleOf, kernelOf, coefficientsOf, settingAt, settingOf};
-
-// buffer_size: how many entries a history has beyond the n - 1 that a filter of length n keeps.
-// The house row's base length is 160 too, and has nothing to do with it.
-pub const BUFFER_SIZE: u32 = 160;
-
-// The longest history that any two rates in limits need.
-pub const MAX_HISTORY: usize = 7839;
-
-// The most coefficients that any two rates in limits need.
-pub const MAX_COEFFICIENTS: usize = 7688;
-
-// Whether a rate is from 4,000 to 192,000 Hz, both ends included.
-pub fn in_limits(rate: u32) -> bool
-    ensures { λ r. ⌜ r ≡ inLimits rate ⌝ }
-{
-    4000 <= rate && rate <= 192000
-}
-
-// How long a history a filter of this length needs: at most MAX_HISTORY, which is asked for.
-pub fn history_needed(filt_len: u32) -> u32
-    requires { ⌜ (1 ≤ «filt_len») × (historyNeeded «filt_len» ≤ maxHistory) ⌝ }
-    ensures { λ r. ⌜ r ≡ historyNeeded «filt_len» ⌝ }
-{
-    filt_len - 1 + BUFFER_SIZE
-}
 
 // A quality row: the filter's length and oversample where the rate does not fall, and the
 // bandwidths where it falls and where it does not.

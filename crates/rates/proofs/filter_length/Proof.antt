@@ -3,7 +3,7 @@ use mathlib.Core.Path.{sym, _∙_, ap}
 use Prim.Native.Nat.{ℕ, _*_, _/_, _≤_}
 use native.Mathlib.Nat.{mul-le-mul, div-le-self, le-trans}
 use native.Mathlib.Omega.{arith}
-use Rattle.rates.specs.Sizes.{RatioInLimits}
+use Rattle.sizes.specs.Sizes.{RatioInLimits}
 use Rattle.rates.specs.Quality.{Sane}
 use Rattle.rates.specs.Setting.{upTo8}
 use Rattle.rates.specs.declared.QualityMapping.{QualityMapping}

@@ -1,7 +1,7 @@
 -- `rates::Setting::at_ratio` meets its contract: each callee gives its part of the definition, within the limits. Assumes nothing.
 use Prim.Native.Nat.{ℕ, _≤_}
 use native.Mathlib.Omega.{arith}
-use Rattle.rates.specs.Sizes.{RatioInLimits}
+use Rattle.sizes.specs.Sizes.{RatioInLimits}
 use Rattle.rates.specs.Quality.{Sane}
 use Rattle.rates.specs.Setting.{lengthOf, oversampleOf, settingAt}
 use Rattle.rates.specs.declared.QualityMapping.{QualityMapping}

@@ -4,7 +4,7 @@ use Prim.Native.Nat.{ℕ}
 use native.Mathlib.Omega.{arith}
 use Rattle.ratio.specs.Lowest.{lowest}
 use Rattle.ratio.specs.declared.Ratio.{Ratio}
-use Rattle.rates.specs.Sizes.{InLimits, RatioInLimits}
+use Rattle.sizes.specs.Sizes.{InLimits, RatioInLimits}
 use Rattle.rates.specs.Setting.{settingOf}
 use Rattle.rates.proofs.Limits.{ratio-in-limits}
 use Rattle.rates.proofs.Setting.new.Statement.{statement}

@@ -1,9 +1,9 @@
--- `rates::in_limits` meets its contract: the first test decides which way is taken, and the second is the answer. Assumes nothing.
+-- `sizes::in_limits` meets its contract: the first test decides which way is taken, and the second is the answer. Assumes nothing.
 use native.Mathlib.Omega.{arith}
 use borrow.Author.Tests.{le-leb, lt-leb}
-use Rattle.rates.specs.Sizes.{inLimits}
-use Rattle.rates.proofs.in_limits.Statement.{statement}
-use Rattle.rates.proofs.in_limits.Tie as tie
+use Rattle.sizes.specs.Sizes.{inLimits}
+use Rattle.sizes.proofs.in_limits.Statement.{statement}
+use Rattle.sizes.proofs.in_limits.Tie as tie
 
 returns : tie.Need-returns
 unfolding inLimits
