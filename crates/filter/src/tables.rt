@@ -12,7 +12,7 @@ fn direct_x(n: u32, den: u32, i: u32, j: u32) -> f32
     requires { ⌜ (n ≤ 2 ^ 24) × (den ≤ 2 ^ 24) × (i ≤ 2 ^ 24) × (j ≤ 2 ^ 24) ⌝ }
     ensures { λ r. ⌜ r ≡ directX n den i j ⌝ }
 {
-    (math::small(j) - math::small(n) / 2.0 + 1.0) - math::small(i) / math::small(den)
+    (casts::small(j) - casts::small(n) / 2.0 + 1.0) - casts::small(i) / casts::small(den)
 }
 
 // The coordinate of entry i of the interpolated table. i - 4 is exact in f32, so it is the Rust's whole number i - 4, negative for the first four, as an f32.
@@ -20,7 +20,7 @@ fn interpolated_x(n: u32, oversample: u32, i: u32) -> f32
     requires { ⌜ (n ≤ 2 ^ 24) × (oversample ≤ 2 ^ 24) × (i ≤ 2 ^ 24) ⌝ }
     ensures { λ r. ⌜ r ≡ interpolatedX n oversample i ⌝ }
 {
-    (math::small(i) - 4.0) / math::small(oversample) - math::small(n) / 2.0
+    (casts::small(i) - 4.0) / casts::small(oversample) - casts::small(n) / 2.0
 }
 
 // Row after row: a row has n entries.

@@ -6,4 +6,3 @@ pub mod Rounded
 pub mod Real
 pub mod Sign
 pub mod Bounded
-pub mod Floored

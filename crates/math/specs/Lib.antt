@@ -1,7 +1,5 @@
 -- The definitions of floats that every crate shares. Assumes nothing.
 pub mod Operators
 pub mod Numerals
-pub mod Narrowed
-pub mod Floor
 pub mod Powers
 pub mod Sign

@@ -1,14 +1,7 @@
-// Floats beyond Rust's operators: the casts, powers, signs and absolute values that the
-// filter takes.
+// Signs, absolute values and powers of floats. The definitions here, of numerals and operators, are
+// what every formula of the other crates is written in.
 //
-// Every function answers for every argument, NaN and the infinities included, but for `small`,
-// which is exact and asks for a number that an f32 can count to. Each contract is an equation with
-// a definition of specs/.
-mod casts;
-
-pub use casts::floor;
-pub use casts::narrow;
-pub use casts::small;
+// Every function answers for every argument, NaN and the infinities included.
 ghost use mathlib.Core.Path.{_≡_};
 ghost use Rattle.math.specs.Powers.{square, cube};
 ghost use Rattle.math.specs.Sign.{magnitude, timesSign};

@@ -113,7 +113,7 @@ fn cutoff(row: QualityMapping, num: u32, den: u32) -> f32
     ensures { λ r. ⌜ r ≡ cutoffOf row num den ⌝ }
 {
     if num > den {
-        return row.downsample_bandwidth * math::small(den) / math::small(num);
+        return row.downsample_bandwidth * casts::small(den) / casts::small(num);
     }
     row.upsample_bandwidth
 }

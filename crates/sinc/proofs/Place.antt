@@ -14,7 +14,7 @@ use lib.Ieee.Exact.{HasValue}
 use lib.Ieee.Positive.{positive-of-value, mul-at}
 use Rattle.math.specs.Operators.{_*ᵈ_, _/ᵈ_}
 use Rattle.math.specs.Numerals.{asF64, decimal64}
-use Rattle.math.specs.Narrowed.{narrowed}
+use Rattle.casts.specs.Narrowed.{narrowed}
 use Rattle.math.specs.Sign.{magnitude}
 use Rattle.math.proofs.Rounded.{AtMost, not-above, round-at-most}
 use Rattle.math.proofs.Bounded.{holds, at-value, mul-at-most, div-at-most}

@@ -3,7 +3,7 @@
 use Prim.Native.Nat.{ℕ}
 use mathlib.Core.Bool.{cond}
 use lib.Ieee.{Float, lt}
-use Rattle.math.specs.Narrowed.{narrowed}
+use Rattle.casts.specs.Narrowed.{narrowed}
 use Rattle.math.specs.Numerals.{nought, asF64, decimal64}
 use Rattle.math.specs.Operators.{_*ᵈ_, _/ᵈ_, _*ᶠ_}
 use Rattle.math.specs.Sign.{magnitude}

@@ -13,7 +13,7 @@ const PI: f64 = 3.141592653589793;
 fn place_at(x: f32, n: u32) -> f32
     ensures { λ r. ⌜ r ≡ placeAt x n ⌝ }
 {
-    math::narrow(math::abs(2.0 * std::num::f32_to_f64_with_nan(x) / n as f64))
+    casts::narrow(math::abs(2.0 * std::num::f32_to_f64_with_nan(x) / n as f64))
 }
 
 // The coefficient at x where neither test of `sinc` decides it. With cutoff 0.0 the angle is 0.0, and 0.0 / 0.0 gives a NaN.
@@ -24,7 +24,7 @@ fn windowed_sinc(cutoff: f32, x: f32, n: u32) -> f32
     let angle = PI * std::num::f32_to_f64_with_nan(x * cutoff);
     let first_factor = std::num::f32_to_f64_with_nan(cutoff) * sine::sine(angle) / angle;
     let second_factor = compute_func(place_at(x, n));
-    math::narrow(first_factor * second_factor)
+    casts::narrow(first_factor * second_factor)
 }
 
 // The coefficient at x for a filter of length n, whatever x and cutoff are. A NaN for x passes both tests, and gives a NaN.

@@ -9,12 +9,12 @@ use lib.Ieee.{Float, nan, inf, fin, binary32, up, down, round, neg, mul, lt, ofI
 use lib.Ieee.Fits.{down-pos}
 use Rattle.math.specs.Operators.{_*ᶠ_}
 use Rattle.math.specs.Numerals.{asF32}
-use Rattle.math.specs.Floor.{floorOf}
+use Rattle.casts.specs.Floor.{floorOf}
 use Rattle.math.proofs.Pick.{failed}
 use Rattle.math.proofs.Rounded.{Plain, round-plain, round-at-most}
 use Rattle.math.proofs.Sign.{round-sign}
 use Rattle.math.proofs.Bounded.{holds}
-use Rattle.math.proofs.Floored.{floor-at-most}
+use Rattle.casts.proofs.Floored.{floor-at-most}
 use Rattle.window.specs.Window.{NotAboveOne}
 
 -- ---- the floor of what is negative is 0

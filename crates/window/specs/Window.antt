@@ -7,7 +7,7 @@ use lib.ListN.{getD}
 use lib.Ieee.{Float, nan, neg, lt}
 use Rattle.math.specs.Operators.{_+ᵈ_, _-ᵈ_, _*ᵈ_, _*ᶠ_, _-ᶠ_}
 use Rattle.math.specs.Numerals.{asF32, asF64, decimal64}
-use Rattle.math.specs.Floor.{floorOf}
+use Rattle.casts.specs.Floor.{floorOf}
 use Rattle.math.specs.Powers.{square, cube}
 use Rattle.window.specs.declared.Weights.{Weights}
 

@@ -95,7 +95,7 @@ pub fn compute_func(x: f32) -> f64
     ensures { λ r. ⌜ r ≡ windowAt x ⌝ }
 {
     let y = x * WINDOW_FN_OVERSAMPLE;
-    let ind = math::floor(y);
+    let ind = casts::floor(y);
     let f = std::num::f32_to_f64_with_nan(y - ind as f32);
     weighted_sum(weights_at(f), ind)
 }

@@ -1,4 +1,4 @@
--- `math::casts::narrow` meets its contract: |x| goes through `narrow_pattern`, and the sign of x is put back, which rounding does not look at.
+-- `casts::narrow` meets its contract: |x| goes through `narrow_pattern`, and the sign of x is put back, which rounding does not look at.
 -- Assumes nothing.
 use mathlib.Core.Path.{_≡_, refl, sym, _∙_, ap, subst}
 use mathlib.Core.Bool.{Bool, true, false}
@@ -8,14 +8,14 @@ use lib.Dec.{T, ltb, nltb→le}
 use lib.Ieee.{Float, nan, inf, fin, binary32, binary64, up, down, round, div, neg, isNan, fits, ofBits, toBits}
 use lib.Ieee.Fits.{nan-fits, inf-fits, round-fits}
 use lib.Ieee.Bits.{ofBits-toBits, toBits-lt, nanBits-is, nanBits-above}
-use Rattle.math.specs.Narrowed.{narrowed}
+use Rattle.casts.specs.Narrowed.{narrowed}
 use Rattle.math.specs.Sign.{magnitude, timesSign}
 use Rattle.math.proofs.Rounded.{Plain, round-plain}
 use Rattle.math.proofs.Pick.{passed, failed}
 use Rattle.math.proofs.Real.{unreal, real, plain-real}
 use Rattle.math.proofs.Sign.{round-sign, magnitude-plain, rest-pattern, plus-pattern, minus-pattern}
-use Rattle.math.proofs.casts.narrow.Statement.{statement}
-use Rattle.math.proofs.casts.narrow.Tie as tie
+use Rattle.casts.proofs.narrow.Statement.{statement}
+use Rattle.casts.proofs.narrow.Tie as tie
 
 -- ---- what owning an `f64` tells: the format holds it. And it is no NaN once the first test has failed
 held : (c : tie.Start) → T (fits binary64 (c .args .x))

@@ -1,4 +1,4 @@
--- `math::casts::floor` meets its contract: above 0 and below 2 ^ 64 it cuts the fraction off, and the two other ways answer the ends of the range.
+-- `casts::floor` meets its contract: above 0 and below 2 ^ 64 it cuts the fraction off, and the two other ways answer the ends of the range.
 -- Assumes nothing.
 use mathlib.Core.Path.{_≡_, refl, _∙_}
 use mathlib.Core.Bool.{true, false, true≢false, false≢true}
@@ -9,11 +9,11 @@ use lib.Dec.{T, lt→ltb, nltb→le}
 use lib.IntN.{pos}
 use lib.Ieee.{Float, nan, inf, fin, up, down, lt, toUnsigned, ofBits}
 use lib.Ieee.Fits.{down-pos}
 use Rattle.math.specs.Numerals.{nought}
-use Rattle.math.specs.Floor.{floorOf}
+use Rattle.casts.specs.Floor.{floorOf}
 use Rattle.math.proofs.Pick.{passed, failed}
-use Rattle.math.proofs.casts.floor.Statement.{statement}
-use Rattle.math.proofs.casts.floor.Tie as tie
+use Rattle.casts.proofs.floor.Statement.{statement}
+use Rattle.casts.proofs.floor.Tie as tie
 
 -- ---- above 0 and below 2 ^ 64
 above-minus-one : (y : Float) → lt nought y ≡ true → T (lt (fin true 1 (pos 0)) y)

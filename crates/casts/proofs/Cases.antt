@@ -15,9 +15,9 @@ use lib.Ieee.Bits.{is-false, cond-no}
 use lib.Ieee.Exact.{HasValue, odd-sign}
 use lib.Ieee.Nearest.{closest, closest-same}
 use lib.Ieee.Scale.{round-same}
-use Rattle.math.specs.Narrowed.{narrowed}
+use Rattle.casts.specs.Narrowed.{narrowed}
 use Rattle.math.proofs.Closest.{tiny, closest-ge, closest-le}
-use Rattle.math.proofs.casts.Pattern.{size-is, toBits-inf, units-inf, toBits-units, round-at}
+use Rattle.casts.proofs.Pattern.{size-is, toBits-inf, units-inf, toBits-units, round-at}
 
 -- ---- a finite value narrows by whatever fraction it equals
 narrowed-val : (x : Float) (a c : ℕ) → 0 < c → HasValue x false a c → narrowed x ≡ round binary32 false a c

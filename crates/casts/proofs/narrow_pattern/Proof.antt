@@ -1,4 +1,4 @@
--- `math::casts::narrow_pattern` meets its contract: each way returns the pattern of one case of proofs/casts/Cases.antt. Assumes nothing.
+-- `casts::narrow_pattern` meets its contract: each way returns the pattern of one case of proofs/casts/Cases.antt. Assumes nothing.
 use borrow.Author.Needs.{needs}
 use mathlib.Core.Path.{_≡_, sym, _∙_, ap, subst}
 use mathlib.Core.Logic.{_⊎_, inl, inr}
@@ -9,11 +9,11 @@ use lib.Dec.{lit<}
 use lib.Pow.{shl-exact, pow-pos}
 use lib.Ieee.{binary32, binary64, ofBits, toBits}
 use lib.Ieee.Nearest.{closest}
-use Rattle.math.specs.Narrowed.{narrowed}
+use Rattle.casts.specs.Narrowed.{narrowed}
 use Rattle.math.proofs.Closest.{closest-le}
-use Rattle.math.proofs.casts.Cases.{Reads, whole-pattern, reads-zero, reads-low, reads-mid, reads-high, reads-inf}
-use Rattle.math.proofs.casts.narrow_pattern.Statement.{statement}
-use Rattle.math.proofs.casts.narrow_pattern.Tie as tie
+use Rattle.casts.proofs.Cases.{Reads, whole-pattern, reads-zero, reads-low, reads-mid, reads-high, reads-inf}
+use Rattle.casts.proofs.narrow_pattern.Statement.{statement}
+use Rattle.casts.proofs.narrow_pattern.Tie as tie
 
 -- the entry, from where the field is known to be from 873 to 1150
 abbrev entry : tie.Else2 → tie.Start

@@ -5,9 +5,9 @@ ghost use mathlib.Core.Path.{_≡_};
 ghost use Prim.Native.Nat.{_*_, _^_, _≤_, _<_};
 ghost use lib.Ieee.{binary32, binary64, ofBits, toBits};
 ghost use lib.Ieee.Nearest.{closest};
-ghost use Rattle.math.specs.Narrowed.{narrowed};
-ghost use Rattle.math.specs.Floor.{floorOf};
+ghost use Rattle.casts.specs.Narrowed.{narrowed};
+ghost use Rattle.casts.specs.Floor.{floorOf};
 ghost use Rattle.math.specs.Numerals.{asF32};
 
 // The weight of the sign in an f64 pattern, 2^63, and of the exponent's field in either format, 2^52
 // and 2^23.

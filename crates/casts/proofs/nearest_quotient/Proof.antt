@@ -1,11 +1,11 @@
--- `math::casts::nearest_quotient` meets its contract: its one test goes up exactly where the nearest whole number does (`rounds-up`, `rounds-down` of proofs/Closest.antt).
+-- `casts::nearest_quotient` meets its contract: its one test goes up exactly where the nearest whole number does (`rounds-up`, `rounds-down` of proofs/Closest.antt).
 -- Assumes nothing.
 use native.Mathlib.Nat.{mod-le, div-le-self}
 use native.Mathlib.Omega.{arith}
 use Rattle.math.proofs.Closest.{rounds-up, rounds-down}
 use borrow.Author.Needs.{needs}
-use Rattle.math.proofs.casts.nearest_quotient.Statement.{statement}
-use Rattle.math.proofs.casts.nearest_quotient.Tie as tie
+use Rattle.casts.proofs.nearest_quotient.Statement.{statement}
+use Rattle.casts.proofs.nearest_quotient.Tie as tie
 
 div-q : tie.Need-div-q
 div-q c = search needs

@@ -1,10 +1,10 @@
--- `math::casts::small` meets its contract: what the cast asks is what `small` requires. Assumes nothing.
+-- `casts::small` meets its contract: what the cast asks is what `small` requires. Assumes nothing.
 use Prim.Native.Nat.{_^_}
 use lib.Dec.{le→leb}
 use lib.Ieee.{inFloat}
 use borrow.Author.Needs.{needs}
-use Rattle.math.proofs.casts.small.Statement.{statement}
-use Rattle.math.proofs.casts.small.Tie as tie
+use Rattle.casts.proofs.small.Statement.{statement}
+use Rattle.casts.proofs.small.Tie as tie
 
 int-to-float-result : tie.Need-int-to-float-result
 unfolding inFloat

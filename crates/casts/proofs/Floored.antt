@@ -4,8 +4,8 @@ use Prim.Native.Nat.{ℕ, _*_, _/_, _≤_}
 use native.Mathlib.Nat.{div-le-of-le-mul}
 use native.Mathlib.Omega.{arith}
 use lib.Ieee.{Float, nan, inf, fin, up, down}
-use Rattle.math.specs.Floor.{floorOf}
+use Rattle.casts.specs.Floor.{floorOf}
 use Rattle.math.proofs.Rounded.{AtMost}
 
 -- the floor of a value that is at most n is at most n
 pub floor-at-most : (y : Float) (n : ℕ) → AtMost y n 1 → floorOf y ≤ n

@@ -1,0 +1,3 @@
+-- From one kind of number to another. Assumes nothing.
+pub mod Narrowed
+pub mod Floor

@@ -1,3 +1,0 @@
--- The laws behind `narrow_pattern`. Assumes nothing.
-mod Pattern
-mod Cases
