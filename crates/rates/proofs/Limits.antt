@@ -71,6 +71,6 @@ limits row sane source target hs ht =
     at-ratio row sane (lowest source target .num) (lowest source target .den) (ratio-in-limits source target hs ht)
 
 -- ---- as a rate of `timeline`, with a history of the length needed or longer
-pub setting-fits : {row : QualityMapping} {s : Setting} (alloc : ℕ) → Sane row → Limits row s
+pub rate-fits : {row : QualityMapping} {s : Setting} (alloc : ℕ) → Sane row → Limits row s
     → historyNeeded (s .«filt_len») ≤ alloc → Fit (rateWith s alloc)
-setting-fits alloc sane l h = record { num = l .terms .num-from; den = l .terms .den-from; n = omega arith; alloc = omega arith }
+rate-fits alloc sane l h = record { num = l .terms .num-from; den = l .terms .den-from; n = omega arith; alloc = omega arith }

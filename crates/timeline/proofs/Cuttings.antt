@@ -11,7 +11,7 @@ use Rattle.timeline.specs.Numbers.{Rate, Place, Called, Fit, still}
 use Rattle.timeline.specs.Samples.{Played, unplayed, playCall}
 use Rattle.timeline.specs.Recording.{Offer, playOneMore, playCalls}
 use Rattle.timeline.specs.Laws.{Kept}
-use Rattle.timeline.proofs.Places.{raised, raised-none}
+use Rattle.timeline.proofs.Places.{lifted, lifted-none}
 use Rattle.timeline.proofs.History.{call-keeps, kept-both}
 use Rattle.timeline.proofs.Lines.{Tells, tell-both, call-tells}
 
@@ -31,7 +31,7 @@ module _ {A : Type 0} (weigh : ℕ → List A → A) (r : Rate) (fit : Fit r) wh
           consumed = omega arith;
           magic = omega arith;
           magic-first = inr refl;
-          place = ap (λ (c : ℕ). raised c p) from-start ∙ raised-none p;
+          place = ap (λ (c : ℕ). lifted c p) from-start ∙ lifted-none p;
           below = λ j l. absurd (not-suc-le-zero l);
         };
         sound = refl;

@@ -8,7 +8,7 @@ use lib.ListN.{length, take, drop}
 use lib.Seq.{drop-drop}
 use Rattle.timeline.specs.Numbers.{Rate, Place, next, ahead}
 use Rattle.timeline.specs.Samples.{output, outputs}
-use Rattle.timeline.proofs.Places.{raised, next-raised}
+use Rattle.timeline.proofs.Places.{lifted, next-lifted}
 use Rattle.timeline.proofs.Parts.{same-window}
 
 module _ {A : Type 0} (weigh : ℕ → List A → A) (r : Rate) where
@@ -31,9 +31,9 @@ module _ {A : Type 0} (weigh : ℕ → List A → A) (r : Rate) where
       (outputs-same a b m k (next r p) e (λ j l. w (suc j) (omega arith)))
 
   -- outputs of the line from sample c on
-  pub outputs-from : (line : List A) (c k : ℕ) (p : Place) → outputs weigh r (drop c line) k p ≡ outputs weigh r line k (raised c p)
+  pub outputs-from : (line : List A) (c k : ℕ) (p : Place) → outputs weigh r (drop c line) k p ≡ outputs weigh r line k (lifted c p)
   outputs-from line c zero p = refl
   outputs-from line c (suc k) p =
       ap₂ (λ (x : A) (xs : List A). x ∷ xs)
       (ap (λ (l : List A). weigh (p .phase) (take (r .n) l)) (drop-drop (p .position) c line))
-      (outputs-from line c k (next r p) ∙ ap (outputs weigh r line k) (sym (next-raised r c p)))
+      (outputs-from line c k (next r p) ∙ ap (outputs weigh r line k) (sym (next-lifted r c p)))

@@ -23,22 +23,22 @@ abbrev pub reach : Rate → Place → ℕ
 reach r p = r .den * p .position + p .phase
 
 -- a place as it is called c samples earlier in the stream
-abbrev pub raised : ℕ → Place → Place
-raised c p = record { position = c + p .position; phase = p .phase }
+abbrev pub lifted : ℕ → Place → Place
+lifted c p = record { position = c + p .position; phase = p .phase }
 
-pub raised-none : (p : Place) → raised 0 p ≡ p
-raised-none p = rw (zero-add (p .position))
+pub lifted-none : (p : Place) → lifted 0 p ≡ p
+lifted-none p = rw (zero-add (p .position))
 
-pub raised-twice : (a b : ℕ) (p : Place) → raised (a + b) p ≡ raised a (raised b p)
-raised-twice a b p = rw (add-assoc a b (p .position))
+pub lifted-twice : (a b : ℕ) (p : Place) → lifted (a + b) p ≡ lifted a (lifted b p)
+lifted-twice a b p = rw (add-assoc a b (p .position))
 
 module _ (r : Rate) where
-  pub next-raised : (c : ℕ) (p : Place) → next r (raised c p) ≡ raised c (next r p)
-  next-raised c p = rw (add-assoc c (p .position))
+  pub next-lifted : (c : ℕ) (p : Place) → next r (lifted c p) ≡ lifted c (next r p)
+  next-lifted c p = rw (add-assoc c (p .position))
 
-  pub ahead-raised : (k c : ℕ) (p : Place) → ahead r k (raised c p) ≡ raised c (ahead r k p)
-  ahead-raised zero c p = refl
-  ahead-raised (suc k) c p = ap (ahead r k) (next-raised c p) ∙ ahead-raised k c (next r p)
+  pub ahead-lifted : (k c : ℕ) (p : Place) → ahead r k (lifted c p) ≡ lifted c (ahead r k p)
+  ahead-lifted zero c p = refl
+  ahead-lifted (suc k) c p = ap (ahead r k) (next-lifted c p) ∙ ahead-lifted k c (next r p)
 
   pub ahead-add : (a b : ℕ) (p : Place) → ahead r (a + b) p ≡ ahead r b (ahead r a p)
   ahead-add zero b p = rw (zero-add b)

@@ -8,7 +8,7 @@ use native.Mathlib.Nat.{not-suc-le-zero, sub-zero}
 use native.Mathlib.Omega.{arith}
 use Rattle.timeline.specs.Numbers.{Rate, Place, Turn, Called, chunk, ahead, made, round, roundsUpTo, rounds, magicRound, still, call}
 use Rattle.timeline.specs.Recording.{Offer, callThen, oneMore, calls}
-use Rattle.timeline.proofs.Places.{below-or-not, raised, raised-none, raised-twice, ahead-raised, ahead-add, made-below, made-fits}
+use Rattle.timeline.proofs.Places.{below-or-not, lifted, lifted-none, lifted-twice, ahead-lifted, ahead-add, made-below, made-fits}
 
 -- from place p, over m magic samples and then `inn` of the input: the place, counted from where it began, is that of the outputs written,
 -- and each of those was made below the samples' end
@@ -16,7 +16,7 @@ pub record Moved (r : Rate) (m inn : ℕ) (p : Place) (c : Called) : Type 0 wher
   pub consumed : c .turn .consumed ≤ inn
   pub magic : c .magic ≤ m
   pub magic-first : (c .magic ≡ 0) ⊎ (c .turn .consumed ≡ 0)
-  pub place : raised (m - c .magic + c .turn .consumed) (c .turn .place) ≡ ahead r (c .turn .written) p
+  pub place : lifted (m - c .magic + c .turn .consumed) (c .turn .place) ≡ ahead r (c .turn .written) p
   pub below : (j : ℕ) → j < c .turn .written → ahead r j p .position < m + inn
 
 -- a turn that leaves no magic samples
@@ -32,13 +32,13 @@ module _ (r : Rate) where
     consumed = omega arith;
     magic = omega arith;
     magic-first = inl refl;
-    place = raised-none p;
+    place = lifted-none p;
     below = λ j l. absurd (not-suc-le-zero l);
   }
 
   -- a round's place, counted from where it began
   round-place : (i room : ℕ) (p : Place)
-      → raised (round r i room p .consumed) (round r i room p .place) ≡ ahead r (round r i room p .written) p
+      → lifted (round r i room p .consumed) (round r i room p .place) ≡ ahead r (round r i room p .written) p
   round-place i room p = rw (put-back (ahead r (made r i room p) p .position) i)
 
   pub round-moves : (i room : ℕ) (p : Place) → Moved r 0 i p (plain (round r i room p))
@@ -46,7 +46,7 @@ module _ (r : Rate) where
     consumed = omega arith;
     magic = omega arith;
     magic-first = inl refl;
-    place = ap (λ (c : ℕ). raised c (round r i room p .place)) (omega arith) ∙ round-place i room p;
+    place = ap (λ (c : ℕ). lifted c (round r i room p .place)) (omega arith) ∙ round-place i room p;
     below = λ j l. omega (arith, made-below r i room p j l);
   }
 
@@ -56,7 +56,7 @@ module _ (r : Rate) where
     consumed = omega arith;
     magic = omega arith;
     magic-first = inr refl;
-    place = ap (λ (c : ℕ). raised c (round r (suc m) room p .place)) (omega arith) ∙ round-place (suc m) room p;
+    place = ap (λ (c : ℕ). lifted c (round r (suc m) room p .place)) (omega arith) ∙ round-place (suc m) room p;
     below = λ j l. omega (arith, made-below r (suc m) room p j l);
   }
 
@@ -80,9 +80,9 @@ module _ (r : Rate) where
       | inr e ↦ elim (a .magic-first) [ inl z ↦ inl (omega (arith, b .magic)) | inr z ↦ inr (omega arith) ]
     ];
     place =
-        ap (λ (x : ℕ). raised x (d .turn .place)) (omega (arith, a .magic, b .magic))
-        ∙ raised-twice from (c .magic - d .magic + d .turn .consumed) (d .turn .place)
-        ∙ ap (raised from) (b .place)
+        ap (λ (x : ℕ). lifted x (d .turn .place)) (omega (arith, a .magic, b .magic))
+        ∙ lifted-twice from (c .magic - d .magic + d .turn .consumed) (d .turn .place)
+        ∙ ap (lifted from) (b .place)
         ∙ sym (onwards (d .turn .written));
     below = λ j l. elim (below-or-not j (c .turn .written)) [
       | inl s ↦ a .below j s
@@ -93,8 +93,8 @@ module _ (r : Rate) where
       from : ℕ
       from = m - c .magic + c .turn .consumed
 
-      onwards : (i : ℕ) → ahead r (c .turn .written + i) p ≡ raised from (ahead r i (c .turn .place))
-      onwards i = ahead-add r (c .turn .written) i p ∙ ap (ahead r i) (sym (a .place)) ∙ ahead-raised r i from (c .turn .place)
+      onwards : (i : ℕ) → ahead r (c .turn .written + i) p ≡ lifted from (ahead r i (c .turn .place))
+      onwards i = ahead-add r (c .turn .written) i p ∙ ap (ahead r i) (sym (a .place)) ∙ ahead-lifted r i from (c .turn .place)
 
       later : (j i : ℕ) → c .turn .written + i ≡ j → ahead r i (c .turn .place) .position < c .magic + (inn - c .turn .consumed)
           → ahead r j p .position < m + inn
