@@ -1,10 +1,12 @@
 -- A setting's table and its count by the setting's kernel, and that each sane row and two rates in limits give a setting whose table can be written. Assumes nothing.
 use mathlib.Core.Path.{_≡_, refl, sym, _∙_}
-use mathlib.Core.List.{List, _++_}
+use mathlib.Core.List.{List}
 use Prim.Native.Nat.{ℕ, _*_, _+_, _≤_, _<_}
 use native.Mathlib.Nat.{le-trans, lt-of-lt-of-le}
+use native.Mathlib.Omega.{arith}
 use lib.Dec.{lit≤, lit<}
-use lib.ListN.{length, drop}
+use lib.ListN.{length}
+use lib.Seq.{paste}
 use lib.Ieee.{Float}
 use Rattle.sizes.specs.Sizes.{InLimits}
 use Rattle.rates.specs.Quality.{Sane}
@@ -32,15 +34,15 @@ module _ (s : Setting) (len : ℕ) (h : SettingFits s len) where
 
   -- ---- with the kernel k
   pub written : (k : Kernel) → s .kernel ≡ k → (before after : List Float)
-      → after ≡ kernelTable k (s .cutoff) (s .«filt_len») (s .oversample) (s .den) ++ drop (coefficientsOf k (s .«filt_len») (s .oversample) (s .den)) before
-      → after ≡ tableOf s ++ drop (s .coefs) before
+      → after ≡ paste before 0 (kernelTable k (s .cutoff) (s .«filt_len») (s .oversample) (s .den)) (coefficientsOf k (s .«filt_len») (s .oversample) (s .den))
+      → after ≡ paste before 0 (tableOf s) (s .coefs)
   unfolding tableOf
   written k e before after is = rw (h .count, e) is
 
   pub table-fits : (k : Kernel) → s .kernel ≡ k → (m : ℕ) → 0 < m → TableFits (s .«filt_len») m (coefficientsOf k (s .«filt_len») (s .oversample) (s .den)) len
   table-fits k e m some =
       let is : s .coefs ≡ coefficientsOf k (s .«filt_len») (s .oversample) (s .den) = rw e at (h .count) in
-      record { n-some = h .n-some; m-some = some; exact = rw is at (h .exact); room = rw is at (h .room) }
+      record { n-some = h .n-some; m-some = some; exact = omega arith; room = omega arith }
 
 -- ---- what any sane row and two rates in limits give
 pub setting-fits : (row : QualityMapping) → Sane row → (source target : ℕ) → InLimits source → InLimits target

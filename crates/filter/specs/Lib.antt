@@ -1,3 +1,4 @@
 -- What the contracts of this crate say, in document 01's order. Assumes nothing.
 pub mod Tables
 pub mod Settings
+pub mod Angle

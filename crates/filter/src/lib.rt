@@ -1,4 +1,4 @@
-// The filter's coefficients: the Kaiser window, the windowedSinc sinc, and the table of them that a kernel reads.
+// The table of the filter's coefficients that a kernel reads.
 // How near they come to the sinc of mathematics is not said here: each is its definition's f32.
 mod tables;
 
@@ -7,14 +7,14 @@ use rates::Setting;
 use tables::not_use_direct;
 use tables::use_direct;
 ghost use mathlib.Core.Path.{_≡_};
-ghost use mathlib.Core.List.{_++_};
-ghost use lib.ListN.{length, drop};
+ghost use lib.ListN.{length};
+ghost use lib.Seq.{paste};
 ghost use Rattle.filter.specs.Settings.{SettingFits, tableOf};
 
 // Writes the table of a setting to the first entries of coefs. What lies past it stays as it was: of an older table that was longer the rest is left, where the Rust fills it too. Without a kernel nothing is written.
 pub fn fill_table(coefs: &mut [f32], setting: Setting)
     requires { ⌜ SettingFits setting (length (now coefs)) ⌝ }
-    ensures { λ r. ⌜ now (coefs .exit) ≡ tableOf setting ++ drop (setting .coefs) (now (coefs .entry)) ⌝ }
+    ensures { λ r. ⌜ now (coefs .exit) ≡ paste (now (coefs .entry)) 0 (tableOf setting) (setting .coefs) ⌝ }
 {
     let kernel = setting.kernel;
     match kernel {

@@ -1,9 +1,9 @@
 // The two tables, each written to the first entries of a lent slice; what lies past them stays as it was.
 // Nothing is said of a slice that is too short, or of numbers that an f32 does not hold: no caller has them.
 ghost use mathlib.Core.Path.{_≡_};
-ghost use mathlib.Core.List.{_++_};
 ghost use Prim.Native.Nat.{_+_, _*_, _^_, _<_, _≤_};
-ghost use lib.ListN.{length, drop};
+ghost use lib.ListN.{length};
+ghost use lib.Seq.{paste};
 ghost use Rattle.filter.specs.Tables.{EntryFits, TableFits, directX, interpolatedX, directEntry, interpolatedEntry, directTable, interpolatedTable};
 use sinc::sinc;
 
@@ -41,7 +41,7 @@ fn interpolated_entry(cutoff: f32, n: u32, oversample: u32, i: u32) -> f32
 // Writes the direct table: n * den entries, and no more where the slice held a longer one.
 pub fn use_direct(coefs: &mut [f32], cutoff: f32, n: u32, den: u32)
     requires { ⌜ TableFits n den (n * den) (length (now coefs)) ⌝ }
-    ensures { λ r. ⌜ now (coefs .exit) ≡ directTable cutoff n den ++ drop (n * den) (now (coefs .entry)) ⌝ }
+    ensures { λ r. ⌜ now (coefs .exit) ≡ paste (now (coefs .entry)) 0 (directTable cutoff n den) (n * den) ⌝ }
 {
     for k in 0..n * den {
         coefs[k as usize] = direct_entry(cutoff, n, den, k);
@@ -51,7 +51,7 @@ pub fn use_direct(coefs: &mut [f32], cutoff: f32, n: u32, den: u32)
 // Writes the interpolated table: n * oversample + 8 entries.
 pub fn not_use_direct(coefs: &mut [f32], cutoff: f32, n: u32, oversample: u32)
     requires { ⌜ TableFits n oversample (n * oversample + 8) (length (now coefs)) ⌝ }
-    ensures { λ r. ⌜ now (coefs .exit) ≡ interpolatedTable cutoff n oversample ++ drop (n * oversample + 8) (now (coefs .entry)) ⌝ }
+    ensures { λ r. ⌜ now (coefs .exit) ≡ paste (now (coefs .entry)) 0 (interpolatedTable cutoff n oversample) (n * oversample + 8) ⌝ }
 {
     for i in 0..n * oversample + 8 {
         coefs[i as usize] = interpolated_entry(cutoff, n, oversample, i);

@@ -1,7 +1,7 @@
 -- Document 01, "Coefficients": one coefficient. An f32 stands for the same number as an f64, so nothing is written where one is widened.
 -- Assumes nothing.
 use Prim.Native.Nat.{ℕ}
-use mathlib.Core.Bool.{cond}
+use mathlib.Core.Bool.{Bool, cond}
 use lib.Ieee.{Float, lt}
 use Rattle.casts.specs.Narrowed.{narrowed}
 use Rattle.math.specs.Numerals.{nought, asF64, decimal64}
@@ -14,15 +14,23 @@ use Rattle.window.specs.Window.{windowAt}
 unfoldable pub placeAt : Float → ℕ → Float
 placeAt x n = narrowed (magnitude (asF64 2 *ᵈ x /ᵈ asF64 n))
 
--- (cutoff * sin(angle)) / angle, times the window, rounded to f32; the angle is pi times the f32 product of x and cutoff
+-- the angle whose sine is taken: pi times the f32 product of x and cutoff
+abbrev pub angleAt : Float → Float → Float
+angleAt cutoff x = C *ᵈ (x *ᶠ cutoff)
+
+-- (cutoff * sin(angle)) / angle, times the window, rounded to f32
 unfoldable pub windowedSinc : Float → Float → ℕ → Float
 windowedSinc cutoff x n =
-    let angle = C *ᵈ (x *ᶠ cutoff) in
+    let angle = angleAt cutoff x in
     narrowed (cutoff *ᵈ sineAt angle /ᵈ angle *ᵈ windowAt (placeAt x n))
 
--- the coefficient at x: with |x| < 0.000001 cutoff, with |x| > n/2 zero, else the windowed sinc
+-- whether |x| > n/2; a NaN is not
+abbrev pub far : Float → ℕ → Bool
+far x n = lt (decimal64 1 5 *ᵈ asF64 n) (magnitude x)
+
+-- the coefficient at x: with |x| < 0.000001 cutoff, zero where x is far, else the windowed sinc
 unfoldable pub sincAt : Float → Float → ℕ → Float
 sincAt cutoff x n =
     cond (lt (magnitude x) (decimal64 6 1)) cutoff
-    (cond (lt (decimal64 1 5 *ᵈ asF64 n) (magnitude x)) nought
+    (cond (far x n) nought
     (windowedSinc cutoff x n))

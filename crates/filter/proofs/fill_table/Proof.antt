@@ -1,5 +1,6 @@
 -- `filter::fill_table` meets its contract: each arm writes the table of its kernel (`proofs/Settings.antt`). Assumes nothing.
-use mathlib.Core.Path.{refl}
+use mathlib.Core.List.{[]}
+use lib.Seq.{paste-zero}
 use borrow.Author.Needs.{needs}
 use Rattle.rates.specs.Setting.{coefficientsOf}
 use Rattle.rates.specs.declared.Kernel.the-variants.{Unset, Direct, Interpolated}
@@ -33,7 +34,7 @@ returns : tie.Need-returns
 unfolding kernelTable coefficientsOf
 returns c =
     let start = c .before .before .before in
-    written (start .args .setting) _ (start .pre) Unset (c .enum-told .given .1) (start .args .coefs .now) _ refl
+    written (start .args .setting) _ (start .pre) Unset (c .enum-told .given .1) (start .args .coefs .now) _ (paste-zero _ 0 [])
 
 same-length : tie.Need-same-length
 same-length c = search needs

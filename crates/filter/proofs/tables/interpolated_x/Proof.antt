@@ -18,7 +18,7 @@ small-requires-3 c κs = search needs
 
 returns : tie.Need-returns
 unfolding interpolatedX ofBits ofInt
-returns c = rw (c .before .before .small .ensures, c .before .small2 .ensures, c .small3 .ensures, minus-four (c .before .before .before .args .i) (c .before .before .before .pre .2))
+returns c = rw (c .before .before .small .ensures, c .before .small2 .ensures, c .small3 .ensures, ← minus-four (c .before .before .before .args .i) (c .before .before .before .pre .2))
 
 pub interpolated-x-spec : {M : Type 1} → statement M
 interpolated-x-spec = tie.close (tie.spec small-requires small-requires-2 small-requires-3 returns)

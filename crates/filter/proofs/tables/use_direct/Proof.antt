@@ -1,33 +1,26 @@
--- `filter::tables::use_direct` meets its contract. The loop's invariant: the first k entries are the table's, and the rest is as it was (`proofs/Entries.antt`).
+-- `filter::tables::use_direct` meets its contract. The loop's invariant: k entries of the table are pasted.
 -- The measure is how many are left. Assumes nothing.
-use mathlib.Core.Path.{_≡_}
-use Prim.Native.Nat.{_*_, _-_, _≤_}
+use Prim.Native.Nat.{_*_, _-_}
 use native.Mathlib.Nat.{le-refl}
 use native.Mathlib.Omega.{arith}
-use lib.ListN.{length}
 use borrow.Author.Needs.{needs}
-use Rattle.filter.specs.Tables.{directEntry, directTable}
-use Rattle.filter.proofs.Entries.{Filling, starts, goes-on, length-kept, ends, entry-fits}
+use Rattle.filter.specs.Tables.{directTable}
+use Rattle.history.proofs.Pasted.{Pasted, starts, ends}
+use Rattle.filter.proofs.Entries.{stored, entry-fits}
 use Rattle.filter.proofs.tables.use_direct.Statement.{statement}
 use Rattle.filter.proofs.tables.use_direct.Tie as tie
 
 abbrev Inv-loop : tie.InvT-loop
-Inv-loop coefs₀ cutoff n den k₀ k-end coefs k = Filling (directEntry cutoff n den) (n * den) coefs₀ coefs k
+Inv-loop coefs₀ cutoff n den k₀ k-end coefs k = Pasted coefs₀ 0 (directTable cutoff n den) (n * den) coefs k
 
 abbrev μ-loop : tie.MeasureT-loop
 μ-loop coefs₀ cutoff n den k₀ k-end coefs k = n * den - k
 
-room : (c : tie.At-loop Inv-loop μ-loop) → let a = c .before .before .args in a .n * a .den ≤ length (a .coefs .now)
-room c = c .before .before .pre .room
-
-kept : (c : tie.At-loop Inv-loop μ-loop) → length (c .loop .coefs) ≡ length (c .before .before .args .coefs .now)
-kept c = length-kept _ _ _ (room c) _ _ (c .loop .inv)
-
 mul-k-end : tie.Need-mul-k-end Inv-loop μ-loop
-mul-k-end c = omega (arith, c .before .pre .exact)
+mul-k-end c = omega arith
 
 loop-holds : tie.Need-loop-holds Inv-loop μ-loop
-loop-holds c = starts _ _ _ (c .before .pre .room)
+loop-holds c = starts _ _ _ _
 
 direct-entry-requires : tie.Need-direct-entry-requires Inv-loop μ-loop
 direct-entry-requires c κs =
@@ -41,7 +34,7 @@ mul-coefs : tie.Need-mul-coefs Inv-loop μ-loop
 mul-coefs c = search needs
 
 slice-write-coefs : tie.Need-slice-write-coefs Inv-loop μ-loop
-slice-write-coefs c = omega (arith, kept (c .before .before))
+slice-write-coefs c = omega arith
 
 add-k : tie.Need-add-k Inv-loop μ-loop
 add-k c = search needs
@@ -50,14 +43,14 @@ loop-less : tie.Need-loop-less Inv-loop μ-loop
 loop-less c = omega arith
 
 loop-again : tie.Need-loop-again Inv-loop μ-loop
-loop-again c = let at = c .before .before in goes-on _ _ _ (room at) _ _ _ (at .loop .inv) (omega arith) (c .direct-entry .ensures)
+unfolding directTable
+loop-again c = let at = c .before .before in stored _ _ _ (at .loop .inv) (c .direct-entry .ensures) (omega arith) (at .before .before .pre .room)
 
 same-length : tie.Need-same-length Inv-loop μ-loop
-same-length c = kept (c .before)
+same-length c = c .before .loop .inv .same
 
 returns : tie.Need-returns Inv-loop μ-loop
-unfolding directTable
-returns c = let at = c .before in ends _ _ _ (room at) _ _ (at .loop .inv) (omega arith)
+returns c = ends _ _ _ _ (c .before .loop .inv) (omega arith)
 
 pub use-direct-spec : {M : Type 1} → statement M
 use-direct-spec =
