@@ -9,8 +9,8 @@ ghost use Rattle.casts.specs.Narrowed.{narrowed};
 ghost use Rattle.casts.specs.Floor.{floorOf};
 ghost use Rattle.math.specs.Numerals.{asF32};
 
-// The weight of the sign in an f64 pattern, 2^63, and of the exponent's field in either format, 2^52
-// and 2^23.
+// The weight of the sign in an f64 pattern, 2^63, and of the exponent's field in either format,
+// 2^52 and 2^23.
 const SIGN_64: u64 = 0x8000_0000_0000_0000;
 
 const FIELD_64: u64 = 0x10_0000_0000_0000;
@@ -31,9 +31,9 @@ fn nearest_quotient(v: u64, unit: u64) -> u64
     if unit < twice { q + 1 } else { q }
 }
 
-// The f32 pattern of the f64 pattern `rest`, which is no NaN's and has no sign bit. The field of the
-// exponent decides: below 873 the value is under half the smallest f32, from 1151 on it is past the
-// largest, below 897 it is subnormal in f32. A carry out of the digits moves the field up by
+// The f32 pattern of the f64 pattern `rest`, which is no NaN's and has no sign bit. The field of
+// the exponent decides: below 873 the value is under half the smallest f32, from 1151 on it is past
+// the largest, below 897 it is subnormal in f32. A carry out of the digits moves the field up by
 // itself, to an infinity's too.
 fn narrow_pattern(rest: u64) -> u64
     requires { ⌜ rest ≤ 2047 * 2 ^ 52 ⌝ }

@@ -11,7 +11,9 @@ ghost use lib.ListN.{length};
 ghost use lib.Seq.{paste};
 ghost use Rattle.filter.specs.Settings.{SettingFits, tableOf};
 
-// Writes the table of a setting to the first entries of coefs. What lies past it stays as it was: of an older table that was longer the rest is left, where the Rust fills it too. Without a kernel nothing is written.
+// Writes the table of a setting to the first entries of coefs. What lies past it stays as it was:
+// of an older table that was longer the rest is left, where the Rust fills it too. Without a kernel
+// nothing is written.
 pub fn fill_table(coefs: &mut [f32], setting: Setting)
     requires { ⌜ SettingFits setting (length (now coefs)) ⌝ }
     ensures { λ r. ⌜ now (coefs .exit) ≡ paste (now (coefs .entry)) 0 (tableOf setting) (setting .coefs) ⌝ }

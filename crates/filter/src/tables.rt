@@ -1,5 +1,6 @@
-// The two tables, each written to the first entries of a lent slice; what lies past them stays as it was.
-// Nothing is said of a slice that is too short, or of numbers that an f32 does not hold: no caller has them.
+// The two tables, each written to the first entries of a lent slice; what lies past them stays as
+// it was. Nothing is said of a slice that is too short, or of numbers that an f32 does not hold: no
+// caller has them.
 ghost use mathlib.Core.Path.{_≡_};
 ghost use Prim.Native.Nat.{_+_, _*_, _^_, _<_, _≤_};
 ghost use lib.ListN.{length};
@@ -15,7 +16,8 @@ fn direct_x(n: u32, den: u32, i: u32, j: u32) -> f32
     (casts::small(j) - casts::small(n) / 2.0 + 1.0) - casts::small(i) / casts::small(den)
 }
 
-// The coordinate of entry i of the interpolated table. i - 4 is exact in f32, so it is the Rust's whole number i - 4, negative for the first four, as an f32.
+// The coordinate of entry i of the interpolated table. i - 4 is exact in f32, so it is the Rust's
+// whole number i - 4, negative for the first four, as an f32.
 fn interpolated_x(n: u32, oversample: u32, i: u32) -> f32
     requires { ⌜ (n ≤ 2 ^ 24) × (oversample ≤ 2 ^ 24) × (i ≤ 2 ^ 24) ⌝ }
     ensures { λ r. ⌜ r ≡ interpolatedX n oversample i ⌝ }

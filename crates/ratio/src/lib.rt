@@ -1,5 +1,6 @@
-// Ratios of whole numbers: the greatest common divisor, lowest terms, and a product divided exactly.
-// Everything is u64. Nothing here knows of rates or sound, and nothing promises an answer for a denominator of 0.
+// Ratios of whole numbers: the greatest common divisor, lowest terms, and a product divided
+// exactly. Everything is u64. Nothing here knows of rates or sound, and nothing promises an answer
+// for a denominator of 0.
 ghost use mathlib.Core.Path.{_≡_};
 ghost use Prim.Native.Nat.{_*_, _/_, _^_, _<_};
 ghost use Rattle.ratio.specs.Gcd.{gcdOf};

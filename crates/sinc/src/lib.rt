@@ -1,5 +1,5 @@
-// One coefficient: the sinc, cut off by the window.
-// That its values lie near those of another build's sine is not said here: each is the definition's, bit for bit.
+// One coefficient: the sinc, cut off by the window. That its values lie near those of another
+// build's sine is not said here: each is the definition's, bit for bit.
 ghost use mathlib.Core.Path.{_≡_};
 ghost use Prim.Native.Nat.{_<_};
 ghost use Rattle.window.specs.Window.{NotAboveOne};
@@ -16,7 +16,8 @@ fn place_at(x: f32, n: u32) -> f32
     casts::narrow(math::abs(2.0 * std::num::f32_to_f64_with_nan(x) / n as f64))
 }
 
-// The coefficient at x where neither test of `sinc` decides it. With cutoff 0.0 the angle is 0.0, and 0.0 / 0.0 gives a NaN.
+// The coefficient at x where neither test of `sinc` decides it. With cutoff 0.0 the angle is 0.0,
+// and 0.0 / 0.0 gives a NaN.
 fn windowed_sinc(cutoff: f32, x: f32, n: u32) -> f32
     requires { ⌜ NotAboveOne (placeAt x n) ⌝ }
     ensures { λ r. ⌜ r ≡ windowedSinc cutoff x n ⌝ }
@@ -27,7 +28,8 @@ fn windowed_sinc(cutoff: f32, x: f32, n: u32) -> f32
     casts::narrow(first_factor * second_factor)
 }
 
-// The coefficient at x for a filter of length n, whatever x and cutoff are. A NaN for x passes both tests, and gives a NaN.
+// The coefficient at x for a filter of length n, whatever x and cutoff are. A NaN for x passes both
+// tests, and gives a NaN.
 pub fn sinc(cutoff: f32, x: f32, n: u32) -> f32
     requires { ⌜ 0 < n ⌝ }
     ensures { λ r. ⌜ r ≡ sincAt cutoff x n ⌝ }

@@ -6,7 +6,8 @@ ghost use lib.ListN.{getD};
 ghost use lib.Ieee.{nan};
 ghost use Rattle.window.specs.Window.{NotAboveOne, kaiser, weightsAt, weightedSum, windowAt};
 
-// The window's right half in steps of 1/32, with one entry before the middle and two after the end for the cubic weights.
+// The window's right half in steps of 1/32, with one entry before the middle and two after the end
+// for the cubic weights.
 const WINDOW_FN_KAISER_TABLE: [f64; 36] = [
     0.99537781,
     1.0,
