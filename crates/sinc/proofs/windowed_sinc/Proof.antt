@@ -29,7 +29,11 @@ narrow-requires c κs = search needs
 
 returns : tie.Need-returns
 unfolding windowedSinc C decimal64 ofBits
-returns c = rw (c .narrow .ensures, c .before .compute-func .ensures, c .before .before .place-at .ensures, c .before .before .before .sine .ensures, c .before .before .before .before .f32-to-f64-with-nan2 .ensures, c .before .before .before .before .before .f32-to-f64-with-nan .ensures)
+returns c =
+    let sine = c .before .before .before in
+    let wide = sine .before in
+    rw (c .narrow .ensures, c .before .compute-func .ensures, c .before .before .place-at .ensures)
+    (rw (sine .sine .ensures, wide .f32-to-f64-with-nan2 .ensures, wide .before .f32-to-f64-with-nan .ensures))
 
 pub windowed-sinc-spec : {M : Type 1} → statement M
 windowed-sinc-spec =

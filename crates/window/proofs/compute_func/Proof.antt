@@ -33,7 +33,9 @@ weighted-sum-requires c κs = index-le (c .before .before .before)
 
 returns : tie.Need-returns
 unfolding windowAt ofBits ofInt
-returns c = rw (c .weighted-sum .ensures, c .before .weights-at .ensures, c .before .before .f32-to-f64-with-nan .ensures, c .before .before .before .before .floor .ensures)
+returns c =
+    let wide = c .before .before in
+    rw (c .weighted-sum .ensures, c .before .weights-at .ensures, wide .f32-to-f64-with-nan .ensures, wide .before .before .floor .ensures)
 
 pub compute-func-spec : {M : Type 1} → statement M
 compute-func-spec =

@@ -27,7 +27,10 @@ kaiser-at-requires-4 c κs = search needs
 
 returns : tie.Need-returns
 unfolding weightedSum
-returns c = rw (c .before .before .before .before .before .before .before .kaiser-at .ensures, c .before .before .before .before .before .kaiser-at2 .ensures, c .before .before .before .kaiser-at3 .ensures, c .before .kaiser-at4 .ensures)
+returns c =
+    let third = c .before .before .before in
+    let first = third .before .before .before .before in
+    rw (first .kaiser-at .ensures, third .before .before .kaiser-at2 .ensures, third .kaiser-at3 .ensures, c .before .kaiser-at4 .ensures)
 
 pub weighted-sum-spec : {M : Type 1} → statement M
 weighted-sum-spec =
