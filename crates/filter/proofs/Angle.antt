@@ -1,30 +1,27 @@
 -- At the house row and any two rates in limits every angle is in reach: each operation rounds to at most a bound that its format holds.
--- The bounds: n/2 for |x|; 31/32 for 0.96, and for a lowered cutoff the next multiple of 2 ^ -20 above 31 den / (32 num); 81 for their product; 22/7 for pi; 256.
+-- The bounds: n/2 for |x|; 31/32 for 0.96, and for a lowered cutoff the next multiple of 2 ^ -20 above 31 den / (32 num); 81 for their product; 22/7 for pi; 256. That each x is a number is `coordinate-real` of `Settings`.
 -- Assumes nothing.
-use mathlib.Core.Path.{_≡_, refl, sym, ap, _∙_, subst}
+use mathlib.Core.Path.{_≡_, refl}
 use mathlib.Core.Logic.{inl, inr}
-use mathlib.Core.Bool.{true, false, true≢false}
+use mathlib.Core.Bool.{true, false}
 use Prim.Native.Nat.{ℕ, _+_, _*_, _/_, _^_, _≤_, _<_}
-use native.Mathlib.Nat.{le-trans, lt-of-le-of-lt, one-mul, mul-le-mul-right, mul-le-mul-left, le-of-mul-le-mul-right, div-mul-le-self, div-le-of-le-mul, lt-div-mul-add}
+use native.Mathlib.Nat.{le-refl, le-trans, lt-of-le-of-lt, mul-le-mul-right, mul-le-mul-left, le-of-mul-le-mul-right, div-mul-le-self, div-le-of-le-mul, lt-div-mul-add}
 use native.Mathlib.Omega.{arith}
 use lib.Dec.{lit≤, lit<}
-use lib.Ieee.{Float, nan, inf, fin, binary32, binary64, up, down, round, ofInt, isNan, le}
-use lib.Ieee.Fits.{down-pos}
+use lib.Ieee.{Float, binary32, binary64, round, ofInt, isNan, le}
 use lib.Ieee.Back.{round-whole}
-use lib.Ieee.Bits.{is-true}
 use lib.Ieee.Exact.{HasValue}
-use lib.Ieee.Order.{le-of-values}
-use lib.Ieee.Positive.{positive-of-value, mul-at}
 use borrow.Author.Tests.{lt-ltb, le-ltb}
 use Rattle.math.specs.Numerals.{asF32, asF64, decimal32, decimal64}
 use Rattle.math.specs.Operators.{_*ᵈ_, _*ᶠ_}
 use Rattle.math.specs.Sign.{magnitude}
-use Rattle.math.proofs.Rounded.{AtMost, not-above}
+use Rattle.math.proofs.Rounded.{AtMost, not-above, is-le}
 use Rattle.math.proofs.Sign.{magnitude-plain}
 use Rattle.math.proofs.Bounded.{holds, at-value, mul-at-most, div-at-most}
 use Rattle.sine.specs.Sine.{C}
 use Rattle.sinc.specs.Sinc.{angleAt, far}
-use Rattle.timeline.proofs.Places.{below-or-not}
+use Rattle.sinc.proofs.Place.{half}
+use Rattle.math.proofs.Closest.{below-or-not}
 use Rattle.sizes.specs.Sizes.{InLimits, RatioInLimits}
 use Rattle.rates.specs.House.{house}
 use Rattle.rates.specs.Setting.{cutoffOf, lengthOf, settingAt, settingOf}
@@ -32,18 +29,11 @@ use Rattle.rates.proofs.Numbers.{length-down, length-up}
 use Rattle.rates.proofs.Limits.{ratio-in-limits, at-ratio}
 use Rattle.rates.proofs.House.{house-sane}
 use Rattle.filter.specs.Angle.{sineReach, AnglesInReach}
+use Rattle.filter.proofs.Settings.{setting-fits, coordinate-real}
 
 -- ---- x that is not far is at most n/2 in size
-half : (n : ℕ) → 0 < n → n ≤ 7680 → HasValue (decimal64 1 5 *ᵈ asF64 n) false n 2
-unfolding decimal64 ofInt
-half n some few =
-    let is = round-whole binary64 false n (le-trans few (lit≤ tt)) in
-    subst (λ (y : Float). HasValue y false n 2)
-    (sym (mul-at binary64 (decimal64 1 5) (asF64 n) 1 2 n 1 tt (positive-of-value (asF64 n) n 1 is some) (lit< tt) (lit< tt) (refl, refl) is ∙ ap (λ (k : ℕ). round binary64 false k 2) (one-mul n)))
-    (holds binary64 n 1 (lt-of-le-of-lt few (lit< tt)) (lit≤ tt))
-
 not-far : (x : Float) (n : ℕ) → 0 < n → n ≤ 7680 → isNan x ≡ false → far x n ≡ false → AtMost (magnitude x) n 2
-not-far x n some few real h = not-above (magnitude x) (decimal64 1 5 *ᵈ asF64 n) n 2 (magnitude-plain x real) (half n some few) h
+not-far x n some few real h = not-above (magnitude x) (decimal64 1 5 *ᵈ asF64 n) n 2 (magnitude-plain x real) (half n some (lt-of-le-of-lt few (lit< tt))) h
 
 -- ---- the constants
 bandwidth-down : AtMost (magnitude (house .«downsample_bandwidth»)) 31 32
@@ -71,12 +61,6 @@ unfolding ofInt
 counted n h = round-whole binary32 false n (le-trans h (lit≤ tt))
 
 -- ---- the last step: from the product of x and the cutoff to the angle
-is-le : (y v : Float) (a c : ℕ) → 0 < c → HasValue v false a c → AtMost y a c → le y v ≡ true
-is-le nan v a c some w h = absurd h
-is-le (inf s) v a c some w h = absurd h
-is-le (fin true m e) v a c some w h = absurd (true≢false (h .0))
-is-le (fin false m e) v a c some w h = is-true _ (le-of-values (fin false m e) v (m * up e) (down e) a c (down-pos e) some (refl, refl) w (h .1))
-
 in-reach : (cutoff x : Float) → AtMost (magnitude (x *ᶠ cutoff)) 81 1 → le (magnitude (angleAt cutoff x)) (asF64 sineReach) ≡ true
 unfolding ofInt
 in-reach cutoff x h =
@@ -142,7 +126,8 @@ module _ (num den : ℕ) (r : RatioInLimits num den) where
         product x cutoff n steps (2 ^ 20) (lit< tt) h cutoff-at-most
         (times-le n (1015808 * den / num) num den (r .num-from) (div-mul-le-self (1015808 * den) num) length-le n-to)
 
-  at-house : AnglesInReach (settingAt house num den)
+  -- ---- either way
+  at-house : (x : Float) → isNan x ≡ false → far x n ≡ false → le (magnitude (angleAt cutoff x)) (asF64 sineReach) ≡ true
   unfolding house settingAt
   at-house x real near =
       let l = at-ratio house house-sane num den r in
@@ -151,5 +136,7 @@ module _ (num den : ℕ) (r : RatioInLimits num den) where
 
 -- ---- any two rates in limits
 pub angles-in-reach : (source target : ℕ) → InLimits source → InLimits target → AnglesInReach (settingOf house source target)
-unfolding settingOf
-angles-in-reach source target s t = at-house _ _ (ratio-in-limits source target s t)
+unfolding settingOf settingAt
+angles-in-reach source target s t k l =
+    let real = coordinate-real _ _ (setting-fits house house-sane source target s t _ (le-refl _)) k l in
+    record { number = real; angle = at-house _ _ (ratio-in-limits source target s t) _ real }

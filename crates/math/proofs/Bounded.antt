@@ -12,6 +12,7 @@ use lib.Ieee.Fits.{up-pos, down-pos, reach}
 use lib.Ieee.Bits.{cond-no}
 use lib.Ieee.Exact.{HasValue, round-exact}
 use lib.Ieee.Positive.{positive-of-value}
+use lib.Ieee.Scale.{finite}
 use Rattle.math.specs.Sign.{magnitude}
 use Rattle.math.proofs.Rounded.{AtMost, round-at-most}
 use Rattle.math.proofs.Sign.{round-magnitude}
@@ -29,6 +30,12 @@ unfolding magnitude
 at-value nan a c v = absurd v
 at-value (inf s) a c v = absurd v
 at-value (fin s m e) a c v = (refl, le-of-eq (v .1))
+
+pub bounded-finite : (x : Float) (a c : ℕ) → AtMost (magnitude x) a c → finite x ≡ true
+unfolding magnitude
+bounded-finite nan a c h = absurd h
+bounded-finite (inf s) a c h = absurd h
+bounded-finite (fin s m e) a c h = refl
 
 -- ---- the bounds, as fractions: x / dx and y / dy are the two values
 product : (x dx y dy a c b d p q : ℕ) → 0 < c → 0 < d → x * c ≤ a * dx → y * d ≤ b * dy → a * b * q ≤ p * (c * d) → x * y * q ≤ p * (dx * dy)

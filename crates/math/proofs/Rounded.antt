@@ -8,8 +8,9 @@ use lib.Dec.{T, ltb, eqb, ltb→lt, eqb→eq, nltb→le}
 use lib.IntN.{ℤ}
 use lib.Ieee.{Float, nan, inf, fin, Format, prec, emax, low, up, down, round, units, odd, le, lt}
 use lib.Ieee.Fits.{and-l, down-pos, round-is}
+use lib.Ieee.Bits.{is-true}
 use lib.Ieee.Exact.{HasValue}
-use lib.Ieee.Order.{round-mono, transfer, drop, kept}
+use lib.Ieee.Order.{le-of-values, round-mono, transfer, drop, kept}
 use Rattle.math.proofs.Pick.{failed}
 
 -- ---- what is rounded with the sign + has that sign
@@ -87,6 +88,13 @@ not-above (fin false m e) (fin false n d) a c p w h = (
       (nltb→le (n * up d * down e) (m * up e * down d) (failed h)),
 )
 
--- ---- and so through `round`
+-- ---- and back: what is at most a / c is so by the test
+pub is-le : (y v : Float) (a c : ℕ) → 0 < c → HasValue v false a c → AtMost y a c → le y v ≡ true
+is-le nan v a c C w h = absurd h
+is-le (inf s) v a c C w h = absurd h
+is-le (fin true m e) v a c C w h = absurd (true≢false (h .0))
+is-le (fin false m e) v a c C w h = is-true _ (le-of-values (fin false m e) v (m * up e) (down e) a c (down-pos e) C (refl, refl) w (h .1))
+
+-- ---- a bound goes through `round`
 pub round-at-most : (f : Format) (p q a c : ℕ) → 0 < q → 0 < c → HasValue (round f false a c) false a c → p * c ≤ a * q → AtMost (round f false p q) a c
 round-at-most f p q a c Q C v h = at-most (round f false p q) (round f false a c) a c (round-plain f p q) v (round-mono f p q a c Q C h)

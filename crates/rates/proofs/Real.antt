@@ -1,16 +1,17 @@
 -- With finite bandwidths the cutoff is no NaN: it is a bandwidth, or what rounding gives, and rounding gives none. Assumes nothing.
 use mathlib.Core.Path.{_≡_, refl, sym}
 use mathlib.Core.Bool.{Bool, true, false, cond, true≢false}
-use Prim.Native.Nat.{ℕ, zero, suc, _+_, _*_, _≤_, _<_, _^_}
+use Prim.Native.Nat.{ℕ, _*_, _≤_, _<_}
 use native.Mathlib.Omega.{arith}
 use borrow.Author.Tests.{ne-eqb}
 use lib.Dec.{T, ltb, ltb→lt}
-use lib.Ieee.{Float, nan, inf, fin, Format, binary32, isNan, round, units, odd, low, emax, prec, mul, div, ofInt, up, down, unlike}
+use lib.Ieee.{Float, nan, inf, fin, binary32, isNan, mul, div, ofInt, up, down, unlike}
 use lib.Ieee.Back.{round-whole}
 use lib.Ieee.Positive.{positive, positive-of-value}
 use lib.Ieee.Scale.{finite}
 use Rattle.math.specs.Numerals.{asF32}
 use Rattle.math.specs.Operators.{_*ᶠ_, _/ᶠ_}
+use Rattle.math.proofs.Real.{finite-real, round-real}
 use Rattle.sizes.specs.Sizes.{RatioInLimits}
 use Rattle.rates.specs.Quality.{Sane}
 use Rattle.rates.specs.Setting.{cutoffOf}
@@ -19,21 +20,6 @@ use Rattle.rates.specs.declared.QualityMapping.{QualityMapping}
 either : (t : Bool) (x y : Float) → isNan x ≡ false → isNan y ≡ false → isNan (cond t x y) ≡ false
 either true x y p q = p
 either false x y p q = q
-
--- ---- what is rounded
-odd-real : (d : ℕ) (s : Bool) (q k l : ℕ) → isNan (odd d s q k l) ≡ false
-unfolding odd isNan
-odd-real d s zero k l = refl
-odd-real d s (suc q) k l = refl
-
-units-real : (f : Format) (s : Bool) (q k : ℕ) → isNan (units f s q k) ≡ false
-unfolding units isNan
-units-real f s q k =
-    either (ltb (q * 2 ^ k) (2 ^ (low f + suc (emax f)))) (odd (suc (prec f)) s q k (low f)) (inf s) (odd-real (suc (prec f)) s q k (low f)) refl
-
-round-real : (f : Format) (s : Bool) (a c : ℕ) → isNan (round f s a c) ≡ false
-unfolding round
-round-real f s a c = units-real f s _ _
 
 -- ---- a finite number times a positive one, and any number over a positive one
 mul-real : (x y : Float) → finite x ≡ true → T (positive y) → isNan (x *ᶠ y) ≡ false
@@ -61,12 +47,6 @@ div-real (fin u m e) (fin false n g) p q =
 whole-positive : (n : ℕ) → 1 ≤ n → n ≤ 192000 → T (positive (asF32 n))
 unfolding ofInt
 whole-positive n h k = positive-of-value (asF32 n) n 1 (round-whole binary32 false n (omega arith)) h
-
-finite-real : (x : Float) → finite x ≡ true → isNan x ≡ false
-unfolding isNan
-finite-real nan p = sym p
-finite-real (inf u) p = refl
-finite-real (fin u m e) p = refl
 
 pub cutoff-real : (row : QualityMapping) → Sane row → (num den : ℕ) → RatioInLimits num den
     → isNan (cutoffOf row num den) ≡ false

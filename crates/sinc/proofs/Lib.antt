@@ -1,3 +1,3 @@
--- Laws that belong to no one function. Assumes nothing.
-mod Place
+-- Laws that belong to no one function. `Place` is for other crates too. Assumes nothing.
+pub mod Place
 mod NearFar

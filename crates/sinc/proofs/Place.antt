@@ -46,7 +46,7 @@ module _ (n : ℕ) (some : 0 < n) (few : n < 2 ^ 32) where
   n-is = whole n (lt-of-lt-of-le few (lit≤ tt))
 
   -- n / 2 is exact
-  half : HasValue (decimal64 1 5 *ᵈ asF64 n) false n 2
+  pub half : HasValue (decimal64 1 5 *ᵈ asF64 n) false n 2
   unfolding decimal64
   half =
       subst (λ (y : Float). HasValue y false n 2)
