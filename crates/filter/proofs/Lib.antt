@@ -1,6 +1,5 @@
--- Laws that belong to no one function. `Entries`, `Settings` and `Angle` are for other crates too. Assumes nothing.
+-- Laws that belong to no one function. `Entries` and `Settings` are for other crates too. Assumes nothing.
 mod Shifted
 mod Coordinates
 pub mod Entries
 pub mod Settings
-pub mod Angle

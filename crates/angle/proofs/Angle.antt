@@ -28,8 +28,8 @@ use Rattle.rates.specs.Setting.{cutoffOf, lengthOf, settingAt, settingOf}
 use Rattle.rates.proofs.Numbers.{length-down, length-up}
 use Rattle.rates.proofs.Limits.{ratio-in-limits, at-ratio}
 use Rattle.rates.proofs.House.{house-sane}
-use Rattle.filter.specs.Angle.{sineReach, AnglesInReach}
+use Rattle.angle.specs.Angle.{sineReach, AnglesInReach}
 use Rattle.filter.proofs.Settings.{setting-fits, coordinate-real}
 
 -- ---- x that is not far is at most n/2 in size
 not-far : (x : Float) (n : ℕ) → 0 < n → n ≤ 7680 → isNan x ≡ false → far x n ≡ false → AtMost (magnitude x) n 2

@@ -1,0 +1,2 @@
+-- Every angle is within reach. Assumes nothing.
+pub mod Angle
