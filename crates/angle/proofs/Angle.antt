@@ -23,11 +23,11 @@ use Rattle.sinc.specs.Sinc.{angleAt, far}
 use Rattle.sinc.proofs.Place.{half}
 use Rattle.math.proofs.Closest.{below-or-not}
 use Rattle.sizes.specs.Sizes.{InLimits, RatioInLimits}
-use Rattle.rates.specs.House.{house}
+use Rattle.quality.specs.House.{house}
 use Rattle.rates.specs.Setting.{cutoffOf, lengthOf, settingAt, settingOf}
 use Rattle.rates.proofs.Numbers.{length-down, length-up}
 use Rattle.rates.proofs.Limits.{ratio-in-limits, at-ratio}
-use Rattle.rates.proofs.House.{house-sane}
+use Rattle.quality.proofs.House.{house-sane}
 use Rattle.angle.specs.Angle.{sineReach, AnglesInReach}
 use Rattle.filter.proofs.Settings.{setting-fits, coordinate-real}
 

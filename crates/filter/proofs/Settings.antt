@@ -11,9 +11,9 @@ use lib.Seq.{paste}
 use lib.Ieee.{Float, isNan}
 use Rattle.sinc.specs.Sinc.{sincAt}
 use Rattle.sizes.specs.Sizes.{InLimits}
-use Rattle.rates.specs.Quality.{Sane}
+use Rattle.quality.specs.Quality.{Sane}
 use Rattle.rates.specs.Setting.{coefficientsOf, settingAt, settingOf}
-use Rattle.rates.specs.declared.QualityMapping.{QualityMapping}
+use Rattle.quality.specs.declared.QualityMapping.{QualityMapping}
 use Rattle.rates.specs.declared.Kernel.{Kernel}
 use Rattle.rates.specs.declared.Kernel.the-variants.{Unset, Direct, Interpolated}
 use Rattle.rates.specs.declared.Setting.{Setting}

@@ -5,11 +5,11 @@ use native.Mathlib.Omega.{arith}
 use Rattle.ratio.specs.Lowest.{lowest}
 use Rattle.ratio.proofs.Laws.{num-bounds, den-bounds, same-ratio}
 use Rattle.sizes.specs.Sizes.{InLimits, RatioInLimits, historyNeeded}
-use Rattle.rates.specs.Quality.{Sane}
+use Rattle.quality.specs.Quality.{Sane}
 use Rattle.rates.specs.Setting.{lengthOf, oversampleOf, settingAt, settingOf}
 use Rattle.rates.specs.Limits.{Limits}
 use Rattle.rates.specs.Rated.{rateWith}
-use Rattle.rates.specs.declared.QualityMapping.{QualityMapping}
+use Rattle.quality.specs.declared.QualityMapping.{QualityMapping}
 use Rattle.rates.specs.declared.Setting.{Setting}
 use Rattle.timeline.specs.Numbers.{Fit}
 use Rattle.rates.proofs.Numbers.{length-by-8, length-from, length-to, ratio-to, oversample-from, oversample-to, table-to, kernel-is, coefficients-to}

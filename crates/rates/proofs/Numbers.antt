@@ -9,9 +9,9 @@ use native.Mathlib.Omega.{arith}
 use lib.Dec.{leb}
 use borrow.Author.Tests.{lt-ltb, le-ltb, le-leb, lt-leb}
 use Rattle.timeline.proofs.Places.{below-or-not}
-use Rattle.rates.specs.Quality.{Sane}
+use Rattle.quality.specs.Quality.{Sane}
 use Rattle.rates.specs.Setting.{upTo8, lengthOf, halved, oversampleOf, kernelOf, coefficientsOf}
-use Rattle.rates.specs.declared.QualityMapping.{QualityMapping}
+use Rattle.quality.specs.declared.QualityMapping.{QualityMapping}
 use Rattle.rates.specs.declared.Kernel.the-variants.{Direct, Interpolated}
 
 -- ---- n

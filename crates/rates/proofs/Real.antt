@@ -13,9 +13,9 @@ use Rattle.math.specs.Numerals.{asF32}
 use Rattle.math.specs.Operators.{_*ᶠ_, _/ᶠ_}
 use Rattle.math.proofs.Real.{finite-real, round-real}
 use Rattle.sizes.specs.Sizes.{RatioInLimits}
-use Rattle.rates.specs.Quality.{Sane}
+use Rattle.quality.specs.Quality.{Sane}
 use Rattle.rates.specs.Setting.{cutoffOf}
-use Rattle.rates.specs.declared.QualityMapping.{QualityMapping}
+use Rattle.quality.specs.declared.QualityMapping.{QualityMapping}
 
 either : (t : Bool) (x y : Float) → isNan x ≡ false → isNan y ≡ false → isNan (cond t x y) ≡ false
 either true x y p q = p

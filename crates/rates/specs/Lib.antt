@@ -1,6 +1,4 @@
 -- What the contracts of this crate say, in document 01's order. Assumes nothing.
-pub mod Quality
-pub mod House
 pub mod Setting
 pub mod Limits
 pub mod Rated

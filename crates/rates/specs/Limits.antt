@@ -6,7 +6,7 @@ use Prim.Native.Nat.{_+_, _*_, _/_, _%_, _≤_, _<_}
 use lib.Dec.{leb}
 use lib.Ieee.{isNan}
 use Rattle.sizes.specs.Sizes.{RatioInLimits, historyNeeded, maxHistory, maxCoefficients}
-use Rattle.rates.specs.declared.QualityMapping.{QualityMapping}
+use Rattle.quality.specs.declared.QualityMapping.{QualityMapping}
 use Rattle.rates.specs.declared.Kernel.the-variants.{Direct, Interpolated}
 use Rattle.rates.specs.declared.Setting.{Setting}
 

@@ -7,7 +7,7 @@ use lib.Ieee.{Float}
 use Rattle.math.specs.Numerals.{asF32}
 use Rattle.math.specs.Operators.{_*ᶠ_, _/ᶠ_}
 use Rattle.ratio.specs.Lowest.{lowest}
-use Rattle.rates.specs.declared.QualityMapping.{QualityMapping}
+use Rattle.quality.specs.declared.QualityMapping.{QualityMapping}
 use Rattle.rates.specs.declared.Kernel.{Kernel}
 use Rattle.rates.specs.declared.Kernel.the-variants.{Unset, Direct, Interpolated}
 use Rattle.rates.specs.declared.Setting.{Setting}

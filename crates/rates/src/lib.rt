@@ -3,57 +3,14 @@
 //
 // Numbers only: no coefficient is worked out here and no history is touched. Nothing is promised
 // for a row that is not sane or a rate out of limits.
+use quality::QualityMapping;
 use ratio::_muldiv;
 use ratio::simplify;
 ghost use mathlib.Core.Path.{_≡_};
 ghost use Prim.Native.Nat.{_≤_};
 ghost use Rattle.sizes.specs.Sizes.{InLimits, RatioInLimits};
-ghost use Rattle.rates.specs.Quality.{rowOf, Sane};
-ghost use Rattle.rates.specs.House.{house};
+ghost use Rattle.quality.specs.Quality.{Sane};
 ghost use Rattle.rates.specs.Setting.{cutoffOf, lengthOf, halved, oversampleOf, kernelOf, coefficientsOf, settingAt, settingOf};
-
-// A quality row: the filter's length and oversample where the rate does not fall, and the
-// bandwidths where it falls and where it does not.
-pub struct QualityMapping {
-    pub base_length: usize,
-    pub oversample: usize,
-    pub downsample_bandwidth: f32,
-    pub upsample_bandwidth: f32,
-}
-
-impl QualityMapping {
-    // The house row. It is written out, since a constant's value cannot call `new`.
-    pub const HOUSE: QualityMapping = QualityMapping {
-        base_length: 160,
-        oversample: 16,
-        downsample_bandwidth: 0.96,
-        upsample_bandwidth: 0.96,
-    };
-
-    // The row of these numbers, sane or not.
-    pub fn new(
-        base_length: usize,
-        oversample: usize,
-        downsample_bandwidth: f32,
-        upsample_bandwidth: f32,
-    ) -> Self
-        ensures { λ r. ⌜ r ≡ rowOf «base_length» oversample «downsample_bandwidth» «upsample_bandwidth» ⌝ }
-    {
-        Self {
-            base_length,
-            oversample,
-            downsample_bandwidth,
-            upsample_bandwidth,
-        }
-    }
-
-    // HOUSE, with the contract that a constant cannot have.
-    pub fn house() -> Self
-        ensures { λ r. ⌜ r ≡ house ⌝ }
-    {
-        QualityMapping::HOUSE
-    }
-}
 
 // What makes an output; `Unset` before a source rate was set.
 pub enum Kernel {

@@ -2,7 +2,7 @@
 use mathlib.Core.Path.{refl}
 use Rattle.ratio.specs.Gcd.{gcdOf}
 use Rattle.ratio.specs.Lowest.{lowest}
-use Rattle.rates.specs.House.{house}
+use Rattle.quality.specs.House.{house}
 use Rattle.rates.specs.Setting.{settingOf, lengthOf, oversampleOf, kernelOf, coefficientsOf}
 use Rattle.worked.specs.Worked.{Worked, ClosedTotals}
 

@@ -4,7 +4,7 @@ use mathlib.Core.Path.{_≡_}
 use Prim.Native.Nat.{ℕ}
 use Rattle.timeline.specs.Numbers.{Rate, fresh, call}
 use Rattle.sizes.specs.Sizes.{historyNeeded}
-use Rattle.rates.specs.House.{house}
+use Rattle.quality.specs.House.{house}
 use Rattle.rates.specs.Setting.{settingOf}
 use Rattle.rates.specs.Rated.{rateWith, closedTotal}
 use Rattle.rates.specs.declared.Kernel.{Kernel}

@@ -4,9 +4,9 @@ use Prim.Native.Nat.{ℕ, _*_, _/_, _≤_}
 use native.Mathlib.Nat.{mul-le-mul, div-le-self, le-trans}
 use native.Mathlib.Omega.{arith}
 use Rattle.sizes.specs.Sizes.{RatioInLimits}
-use Rattle.rates.specs.Quality.{Sane}
+use Rattle.quality.specs.Quality.{Sane}
 use Rattle.rates.specs.Setting.{upTo8}
-use Rattle.rates.specs.declared.QualityMapping.{QualityMapping}
+use Rattle.quality.specs.declared.QualityMapping.{QualityMapping}
 use Rattle.rates.proofs.Numbers.{length-down, length-up}
 use Rattle.rates.proofs.filter_length.Statement.{statement}
 use Rattle.rates.proofs.filter_length.Tie as tie

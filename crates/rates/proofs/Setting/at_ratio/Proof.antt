@@ -2,9 +2,9 @@
 use Prim.Native.Nat.{ℕ, _≤_}
 use native.Mathlib.Omega.{arith}
 use Rattle.sizes.specs.Sizes.{RatioInLimits}
-use Rattle.rates.specs.Quality.{Sane}
+use Rattle.quality.specs.Quality.{Sane}
 use Rattle.rates.specs.Setting.{lengthOf, oversampleOf, settingAt}
-use Rattle.rates.specs.declared.QualityMapping.{QualityMapping}
+use Rattle.quality.specs.declared.QualityMapping.{QualityMapping}
 use Rattle.rates.proofs.Limits.{at-ratio}
 use Rattle.rates.proofs.Setting.at_ratio.Statement.{statement}
 use Rattle.rates.proofs.Setting.at_ratio.Tie as tie

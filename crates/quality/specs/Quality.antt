@@ -5,7 +5,7 @@ use mathlib.Core.Bool.{true}
 use Prim.Native.Nat.{ℕ, _%_, _≤_}
 use lib.Ieee.{Float}
 use lib.Ieee.Scale.{finite}
-use Rattle.rates.specs.declared.QualityMapping.{QualityMapping}
+use Rattle.quality.specs.declared.QualityMapping.{QualityMapping}
 
 -- the row of a base length, an oversample and the bandwidths down and up
 abbrev pub rowOf : ℕ → ℕ → Float → Float → QualityMapping
