@@ -131,7 +131,8 @@ fn kernel_for(n: u32, oversample: u32, den: u32) -> Kernel
     Kernel::Interpolated
 }
 
-fn coefficients(kernel: Kernel, n: u32, oversample: u32, den: u32) -> u32
+// How many coefficients a kernel has; without one there are none.
+pub fn coefficients(kernel: Kernel, n: u32, oversample: u32, den: u32) -> u32
     requires { ⌜ (n ≤ 7680) × (oversample ≤ 16) × (den ≤ 192000) ⌝ }
     ensures { λ r. ⌜ r ≡ coefficientsOf kernel n oversample den ⌝ }
 {

@@ -1,0 +1,44 @@
+-- Document 01, "Refusal numbers" and "What has to be pinned by the contracts": what is claimed of every call, beyond its contract.
+-- `proofs/` proves it of each call, and that two results which a contract allows are equal.
+-- Assumes nothing.
+use mathlib.Core.Path.{_≡_}
+use mathlib.Core.Bool.{true}
+use mathlib.Core.List.{List}
+use Prim.Native.Nat.{_≤_}
+use lib.Ieee.{Float}
+use lib.ListN.{length, drop}
+use Rattle.quality.specs.declared.QualityMapping.{QualityMapping}
+use Rattle.state.specs.State.{zeroState}
+use Rattle.state.specs.Belongs.{belongsTogether}
+use Rattle.state.specs.declared.ResamplerState.{ResamplerState}
+use Rattle.judge.specs.declared.Refusal.the-variants.{Rate, State}
+use Rattle.resampler.specs.Answers.{Told, refused}
+
+-- a call that is refused: counts of zero, and the state s as it was given
+pub record Unmoved (s : ResamplerState) (t : Told) : Type 0 where
+  pub consumed : t .consumed ≡ 0
+  pub written : t .written ≡ 0
+  pub state : t .state ≡ s
+
+-- the call is refused, which every number but 0 says
+abbrev pub IsRefused : Told → Type 0
+IsRefused t = t .number ≡ 0 → ⊥
+
+-- what a refused new state tells: 1, and the state whose numbers are all 0
+abbrev pub newRefused : Told
+newRefused = refused Rate zeroState
+
+-- what every later call with that state tells: 7, and the state as it was given
+abbrev pub zeroRefused : Told
+zeroRefused = refused State zeroState
+
+-- a lent output, before and after a call: it keeps its length and what lies past the written count, and the counts keep within the input and the output
+pub record PastWritten (t : Told) (input before after : List Float) : Type 0 where
+  pub consumed : t .consumed ≤ length input
+  pub written : t .written ≤ length before
+  pub long : length after ≡ length before
+  pub rest : drop (t .written) after ≡ drop (t .written) before
+
+-- an accepted call hands back a state whose numbers belong together
+abbrev pub Belonging : QualityMapping → Told → Type 0
+Belonging row t = t .number ≡ 0 → belongsTogether row (t .state) ≡ true

@@ -1,0 +1,4 @@
+// What follows from the resampler's contracts, of every sane quality row: each allows one result, an
+// accepted call hands back a state that belongs together, and a refused one changes nothing. There is
+// no code here: specs/ says what is claimed, and proofs/ proves it of the definitions that the
+// contracts cite. How a call works out its result is not said.

@@ -1,0 +1,2 @@
+-- What each verdict makes of a call. Assumes nothing.
+pub mod Outcomes

@@ -1,0 +1,27 @@
+-- Document 01, "One output, one call": the phase of an output, and its weighted sum over the window. Assumes nothing.
+use Prim.Native.Nat.{ℕ, _*_, _/_, _%_}
+use mathlib.Core.List.{List}
+use lib.Ieee.{Float}
+use Rattle.math.specs.Numerals.{asF32}
+use Rattle.math.specs.Operators.{_/ᶠ_}
+use Rattle.kernel.specs.Step.{stepOf}
+use Rattle.kernel.specs.declared.Phase.{Phase}
+use Rattle.kernel.specs.declared.Phase.the-variants as output
+use Rattle.rates.specs.declared.Kernel.{Kernel}
+use Rattle.rates.specs.declared.Kernel.the-variants.{Unset, Direct, Interpolated}
+use Rattle.rates.specs.declared.Setting.{Setting}
+
+-- direct: the row is the phase's number. Interpolated: the offset is floor(phase*oversample/den), with the remainder of that product over den
+-- in f32. (Without a kernel no output is made.)
+unfoldable pub phaseBy : Kernel → ℕ → ℕ → ℕ → Phase
+phaseBy Unset oversample den phase = output.Direct phase
+phaseBy Direct oversample den phase = output.Direct phase
+phaseBy Interpolated oversample den phase =
+    output.Interpolated (phase * oversample / den) (asF32 (phase * oversample % den) /ᶠ asF32 den)
+
+abbrev pub phaseOf : Setting → ℕ → Phase
+phaseOf s phase = phaseBy (s .kernel) (s .oversample) (s .den) phase
+
+-- one output: the kernel's step over a window of n samples
+abbrev pub weighOf : Setting → List Float → ℕ → List Float → Float
+weighOf s coefs phase window = stepOf (phaseOf s phase) (s .«filt_len») (s .oversample) coefs window

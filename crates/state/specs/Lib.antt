@@ -1,0 +1,3 @@
+-- What the contracts of this crate say, in document 01's order. Assumes nothing.
+pub mod State
+pub mod Belongs

@@ -1,0 +1,2 @@
+-- What the contracts of this crate say, in document 01's order. Assumes nothing.
+pub mod Updated
