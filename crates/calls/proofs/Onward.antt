@@ -1,9 +1,8 @@
 -- One thing written into the lent output, and then another into the rest of it from where the first ended. Assumes nothing.
-use mathlib.Core.Path.{_≡_, refl, sym, _∙_, ap, ap₂}
-use mathlib.Core.List.{List, [], _∷_, _++_, append-assoc, append-nil}
+use mathlib.Core.Path.{_≡_, sym, _∙_, ap, ap₂}
+use mathlib.Core.List.{List, _++_, append-assoc, append-nil}
 use Prim.Native.Nat.{ℕ, _+_, _-_, _≤_}
 use native.Mathlib.Nat.{zero-add, le-of-eq, le-refl}
-use native.Mathlib.Omega.{arith}
 use lib.ListN.{length, take, drop, drop-of-length-le, length-drop, length-append}
 use lib.Seq.{paste, length-paste, take-all, take-length, take-at, drop-at, drop-drop}
 use Rattle.timeline.specs.Samples.{Played, playThen}

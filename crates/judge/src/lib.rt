@@ -133,7 +133,7 @@ pub fn judge_skip(row: QualityMapping, state: ResamplerState) -> Verdict
 }
 
 // How long the history is once a filter of this length is set: it never shrinks.
-fn history_after(mem_alloc_size: u32, filt_len: u32) -> u32
+pub fn history_after(mem_alloc_size: u32, filt_len: u32) -> u32
     requires { ⌜ (1 ≤ «filt_len») × (historyNeeded «filt_len» ≤ maxHistory) ⌝ }
     ensures { λ r. ⌜ r ≡ max «mem_alloc_size» (historyNeeded «filt_len») ⌝ }
 {

@@ -1,7 +1,7 @@
 -- For each verdict, the answer and the slices that the contract asks for. Assumes nothing.
-use mathlib.Core.Path.{_≡_, refl, sym, _∙_, ap}
+use mathlib.Core.Path.{_≡_, sym, _∙_, ap}
 use mathlib.Core.List.{List}
-use Prim.Native.Nat.{ℕ, _/_}
+use Prim.Native.Nat.{ℕ}
 use lib.Ieee.{Float}
 use lib.ListN.{length}
 use Rattle.history.specs.Zeroed.{zeroed}
@@ -9,17 +9,17 @@ use Rattle.quality.specs.declared.QualityMapping.{QualityMapping}
 use Rattle.rates.specs.Setting.{settingOf}
 use Rattle.rounds.specs.declared.Consumed.{Consumed}
 use Rattle.rounds.specs.declared.Written.{Written}
-use Rattle.state.specs.State.{freshState, zeroState, movedTo}
+use Rattle.state.specs.State.{movedTo}
 use Rattle.state.specs.declared.ResamplerState.{ResamplerState}
-use Rattle.judge.specs.Verdicts.{newVerdict, rateVerdict, processVerdict, resetVerdict, skipVerdict}
+use Rattle.judge.specs.Verdicts.{rateVerdict, processVerdict, resetVerdict}
 use Rattle.judge.specs.declared.Refusal.{Refusal}
 use Rattle.judge.specs.declared.Verdict.{Verdict}
 use Rattle.judge.specs.declared.Verdict.the-variants.{Refuse, Same, Act}
 use Rattle.update.specs.Updated.{updatedState, updatedHistory, updatedCoefficients}
 use Rattle.process.specs.Process.{Plays}
 use Rattle.process.specs.declared.Processed.{Processed}
-use Rattle.resampler.specs.Answers.{Told, told, refused, accepted, byVerdict}
-use Rattle.resampler.specs.Entries.{newTold, rateTold, rateHistory, rateCoefficients, processTold, processHistory, processOutput, resetTold, resetHistory, skipTold}
+use Rattle.resampler.specs.Answers.{told, accepted}
+use Rattle.resampler.specs.Entries.{rateTold, rateHistory, rateCoefficients, processTold, processHistory, processOutput, resetTold, resetHistory}
 use Rattle.resampler.specs.Contracts.{SetsRate, Processes, Resets}
 use Rattle.resampler.specs.declared.Answer.the-variants.{Refused, Accepted}
 

@@ -5,7 +5,6 @@ use Prim.Native.Nat.{ℕ, _*_, _-_, _/_, min}
 use mathlib.Core.List.{List}
 use lib.Ieee.{Float}
 use lib.Seq.{paste}
-use Rattle.quality.specs.declared.QualityMapping.{QualityMapping}
 use Rattle.rates.specs.declared.Setting.{Setting}
 use Rattle.filter.specs.Settings.{tableOf}
 use Rattle.reshape.specs.Reshaped.{reshapedMagic, reshapedHistory}

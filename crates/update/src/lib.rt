@@ -36,13 +36,11 @@ fn change(state: ResamplerState, setting: Setting) -> Change
     requires { ⌜ (1 ≤ setting .«filt_len») × (historyNeeded (setting .«filt_len») ≤ maxHistory) ⌝ }
     ensures { λ r. ⌜ r ≡ changeOf state setting ⌝ }
 {
-    let alloc = state.mem_alloc_size;
-    let needed = sizes::history_needed(setting.filt_len);
-    let larger = if alloc < needed { needed } else { alloc };
+    let alloc = judge::history_after(state.mem_alloc_size, setting.filt_len);
     Change {
         started: state.started as usize,
-        old_alloc_size: alloc as usize,
-        mem_alloc_size: larger as usize,
+        old_alloc_size: state.mem_alloc_size as usize,
+        mem_alloc_size: alloc as usize,
         old_length: state.filt_len as usize,
         filt_len: setting.filt_len as usize,
         magic_samples: state.magic_samples as usize,

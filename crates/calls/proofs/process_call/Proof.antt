@@ -6,9 +6,7 @@ use denote.Ref.{now}
 use borrow.Author.Needs.{needs}
 use Rattle.rates.specs.Rated.{rateWith}
 use Rattle.rounds.specs.Output.{weighOf}
-use Rattle.rounds.specs.Rounds.{placeOf, Wrote}
-use Rattle.timeline.specs.Samples.{playMagic}
-use Rattle.calls.specs.Calls.{calledOf}
+use Rattle.rounds.specs.Rounds.{placeOf}
 use Rattle.calls.proofs.Asks.{fit, slow, round-fits, fits-at}
 use Rattle.calls.proofs.Onward.{the-rest, put-back}
 use Rattle.calls.proofs.Magic.{rounds-fit, written-fits, phase-after, position-after, left-wrote, spent-wrote}

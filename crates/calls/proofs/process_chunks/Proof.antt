@@ -1,9 +1,9 @@
 -- `calls::process_chunks` plays the rounds over the input: the invariant is `Playing`, and what is left of the input and of the room falls.
 -- Assumes nothing.
 use mathlib.Core.Logic.{inl, inr}
-use Prim.Native.Nat.{_+_, _-_, _≤_, _<_}
+use Prim.Native.Nat.{_+_, _-_}
 use native.Mathlib.Omega.{arith}
-use lib.ListN.{length, take, drop}
+use lib.ListN.{length}
 use denote.Ref.{now}
 use borrow.Author.Needs.{needs}
 use borrow.Author.Tests.{ltb-true, ltb-false}

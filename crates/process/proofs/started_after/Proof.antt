@@ -1,12 +1,9 @@
 -- `process::started_after` meets its contract: each way out has the tests that `runs` has. Assumes nothing.
-use mathlib.Core.Path.{_≡_}
 use mathlib.Core.Logic.{⊎-elim}
-use Prim.Native.Nat.{_<_}
 use native.Mathlib.Omega.{arith}
 use mathlib.Core.Bool.{and-false}
-use borrow.Author.Tests.{ltb-true, ltb-false, le-ltb}
+use borrow.Author.Tests.{ltb-true, le-ltb}
 use lib.Dec.{ltb}
-use Rattle.timeline.specs.Numbers.{runs}
 use Rattle.timeline.proofs.Unrolled.{runs-over-magic, runs-over-input}
 use Rattle.process.proofs.started_after.Statement.{statement}
 use Rattle.process.proofs.started_after.Tie as tie

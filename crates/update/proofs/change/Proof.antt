@@ -1,45 +1,34 @@
--- `update::change` meets its contract: of the two lengths the larger is taken. Assumes nothing.
-use mathlib.Core.Path.{_≡_}
-use mathlib.Core.Logic.{⊎-elim}
+-- `update::change` meets its contract: a field for a field. Assumes nothing.
 use native.Mathlib.Omega.{arith}
 use borrow.Author.Needs.{needs}
-use Rattle.judge.specs.Verdicts.{historyAfter}
 use Rattle.update.proofs.change.Statement.{statement}
 use Rattle.update.proofs.change.Tie as tie
 
-abbrev End : Type 0
-End = tie.After-struct-known4
+history-after-requires : tie.Need-history-after-requires
+history-after-requires c κs = search needs
 
-abbrev start : End → tie.Start
-start c = c .before .before .before .before .before .before .before
+cast-t4 : tie.Need-cast-t4
+cast-t4 c = search needs
 
-larger-is : (c : End) → c .before .before .before .before .before .if1 .larger ≡ historyAfter (start c .args .state) (start c .args .setting)
-larger-is c =
-    let choice = c .before .before .before .before .before in
-    let needed = choice .before .history-needed .ensures in
-    ⊎-elim (λ w. omega (arith, w)) (λ w. omega (arith, w)) (choice .if1 .came)
+cast-t5 : tie.Need-cast-t5
+cast-t5 c = search needs
 
-history-needed-requires : tie.Need-history-needed-requires
-history-needed-requires c κs = search needs
+cast-t6 : tie.Need-cast-t6
+cast-t6 c = search needs
+
+cast-t7 : tie.Need-cast-t7
+cast-t7 c = search needs
 
 cast-t8 : tie.Need-cast-t8
 cast-t8 c = search needs
 
 cast-t9 : tie.Need-cast-t9
-cast-t9 c = search needs
-
-cast-t11 : tie.Need-cast-t11
-cast-t11 c = search needs
-
-cast-t12 : tie.Need-cast-t12
-cast-t12 c = search needs
-
-cast-t13 : tie.Need-cast-t13
-cast-t13 c = omega (arith, start c .good .0 .1)
+cast-t9 c = omega (arith, c .before .before .before .before .before .before .good .0 .1)
 
 returns : tie.Need-returns
-returns c = rw (larger-is c)
+returns c = rw (c .before .before .before .before .before .history-after .ensures)
 
 pub change-spec : {M : Type 1} → statement M
 change-spec =
-    tie.close (tie.spec history-needed-requires cast-t8 cast-t9 cast-t11 cast-t12 cast-t13 returns)
+    tie.close
+    (tie.spec history-after-requires cast-t4 cast-t5 cast-t6 cast-t7 cast-t8 cast-t9 returns)

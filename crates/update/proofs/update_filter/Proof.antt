@@ -1,3 +1,4 @@
+-- `update::update_filter` meets its contract: what the verdict says gives what each callee asks for. Assumes nothing.
 use mathlib.Core.Path.{ap}
 use native.Mathlib.Omega.{arith}
 use lib.ListN.{length}
@@ -8,38 +9,27 @@ use Rattle.reshape.specs.declared.Change.{Change}
 use Rattle.update.proofs.Updates.{Ready, ready}
 use Rattle.update.proofs.update_filter.Statement.{statement}
 use Rattle.update.proofs.update_filter.Tie as tie
-use Rattle.update.proofs.update_filter.Reads as reads
-use Rattle.update.proofs.update_filter.Lts as lts
-use Rattle.filter.proofs.fill_table.Reads as fill-table-reads
-use Rattle.rates.proofs.Setting.new.Reads as new-reads
-use Rattle.reshape.proofs.reshape_history.Reads as reshape-history-reads
-use Rattle.update.proofs.change.Reads as change-reads
-use Rattle.update.proofs.with_setting.Reads as with-setting-reads
 
+-- what the verdict says
 known : (c : tie.Start) → Ready (c .args .row) (c .args .state) (c .args .source) (length (now (c .args .mem))) (length (now (c .args .coefs)))
 known c = ready (c .args .row) (c .pre .0) (c .args .state) (c .args .source) (length (now (c .args .mem))) (length (now (c .args .coefs))) (c .pre .1)
 
--- src/lib.rt:97:9
 new-requires : tie.Need-new-requires
 new-requires c κs = let k = known (c .before .before) in (c .before .before .pre .0, k .source-in, k .standing .target)
 
--- src/lib.rt:98:9
 change-requires : tie.Need-change-requires
 change-requires c κs = let k = known (c .before .before .before) in rw (c .new .ensures) (omega (arith, k .setting), k .setting .history-to)
 
--- src/lib.rt:99:9
 reshape-history-requires : tie.Need-reshape-history-requires
 reshape-history-requires c κs =
     let k = known (c .before .before .before .before .before) in
     rw (c .before .change .ensures, c .before .before .new .ensures) (k .change)
 
--- src/lib.rt:100:5
 fill-table-requires : tie.Need-fill-table-requires
 fill-table-requires c κs =
     let k = known (c .before .before .before .before .before .before .before .before .before) in
     rw (c .before .before .before .before .before .before .new .ensures) (k .table)
 
--- src/lib.rt:101:17
 cast-alloc : tie.Need-cast-alloc
 cast-alloc c =
     let k = known (c .before .before .before .before .before .before .before .before .before .before .before .before .before) in
@@ -47,7 +37,6 @@ cast-alloc c =
     let f = ap (λ (t : Setting). t .«filt_len») (c .before .before .before .before .before .before .before .before .before .before .new .ensures) in
     omega (arith, k .alloc-to)
 
--- src/lib.rt:102:49
 cast-with-setting : tie.Need-cast-with-setting
 cast-with-setting c =
     let k = known (c .before .before .before .before .before .before .before .before .before .before .before .before .before) in
@@ -55,21 +44,17 @@ cast-with-setting c =
     let f = rw (c .before .before .before .before .before .before .before .before .before .change .ensures, c .before .before .before .before .before .before .before .before .before .before .new .ensures) at e in
     omega (arith, k .magic-to)
 
--- src/lib.rt:102:5
 with-setting-requires : tie.Need-with-setting-requires
 with-setting-requires c κs =
     let k = known (c .before .before .before .before .before .before .before .before .before .before .before .before .before) in
     (k .standing .den, rw (c .before .before .before .before .before .before .before .before .before .before .new .ensures) (k .setting .terms .den-from))
 
--- src/lib.rt:85:1
 same-length : tie.Need-same-length
 same-length c = search needs
 
--- src/lib.rt:85:1
 same-length-2 : tie.Need-same-length-2
 same-length-2 c = search needs
 
--- src/lib.rt:85:1
 returns : tie.Need-returns
 returns c =
     let setting = c .before .before .before .before .before .before .before .before .before .before .before .new .ensures in
