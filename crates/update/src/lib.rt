@@ -5,6 +5,7 @@
 // all that its parts ask for follows.
 use quality::QualityMapping;
 use rates::Setting;
+use ratio::_muldiv;
 use reshape::Change;
 use state::ResamplerState;
 ghost use mathlib.Core.Path.{_≡_};
@@ -23,7 +24,7 @@ fn phase_after(phase: u32, den: u32, old_den: u32) -> u32
     requires { ⌜ (0 < «old_den») × (0 < den) ⌝ }
     ensures { λ r. ⌜ r ≡ phaseAfter phase den «old_den» ⌝ }
 {
-    let scaled = phase as u64 * den as u64 / old_den as u64;
+    let scaled = _muldiv(phase as u64, den as u64, old_den as u64);
     let last = den - 1;
     if scaled < last as u64 {
         return scaled as u32;

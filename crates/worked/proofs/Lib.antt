@@ -1,2 +1,3 @@
--- The worked numbers, computed. Assumes nothing.
+-- The first rate and the first call of a new state, and the worked numbers. Assumes nothing.
+pub mod First
 pub mod Worked

@@ -1,19 +1,16 @@
 -- `update::phase_after` meets its contract: a product of two u32 fits 64 bits. Assumes nothing.
-use Prim.Native.Nat.{_≤_}
+use Prim.Native.Nat.{_*_, _≤_, _<_, _^_}
 use native.Mathlib.Nat.{mul-le-mul}
 use native.Mathlib.Omega.{arith}
 use borrow.Author.Needs.{needs}
 use Rattle.update.proofs.phase_after.Statement.{statement}
 use Rattle.update.proofs.phase_after.Tie as tie
 
-mul-scaled : tie.Need-mul-scaled
-mul-scaled c =
+-muldiv-requires : tie.Need--muldiv-requires
+-muldiv-requires c κs =
     let p : c .args .phase ≤ 4294967295 = omega arith in
     let d : c .args .den ≤ 4294967295 = omega arith in
-    omega (arith, mul-le-mul p d)
-
-div-scaled : tie.Need-div-scaled
-div-scaled c = search needs
+    (c .pre .0, omega (arith, mul-le-mul p d))
 
 sub-last : tie.Need-sub-last
 sub-last c = search needs
@@ -25,11 +22,11 @@ cast-result : tie.Need-cast-result
 cast-result c = search needs
 
 returns : tie.Need-returns
-returns c = search needs
+returns c = omega (arith, c .before .-muldiv .ensures)
 
 returns-2 : tie.Need-returns-2
-returns-2 c = search needs
+returns-2 c = omega (arith, c .before .-muldiv .ensures)
 
 pub phase-after-spec : {M : Type 1} → statement M
 phase-after-spec =
-    tie.close (tie.spec mul-scaled div-scaled sub-last cast-if1 cast-result returns returns-2)
+    tie.close (tie.spec -muldiv-requires sub-last cast-if1 cast-result returns returns-2)
