@@ -1,32 +1,40 @@
--- A refused call changes nothing, and a process call leaves alone the history from alloc on and the output past the written count.
+-- A refused call changes nothing, and any call leaves alone the history from alloc on, the coefficients past the table and the output past the
+-- written count.
 -- Assumes nothing.
 use mathlib.Core.Path.{_≡_, refl, sym, _∙_, ap}
 use mathlib.Core.List.{List}
 use Prim.Native.Nat.{ℕ, _≤_}
 use native.Mathlib.Omega.{arith}
 use lib.Ieee.{Float}
-use lib.ListN.{length}
-use lib.Seq.{length-paste}
+use lib.ListN.{length, length-replicate}
+use lib.Seq.{paste, length-paste}
 use Rattle.timeline.specs.Numbers.{Called, call}
 use Rattle.timeline.specs.Samples.{Played}
-use Rattle.timeline.specs.Laws.{Kept}
+use Rattle.timeline.specs.Laws.{KeptFrom}
 use Rattle.timeline.proofs.Parts.{drop-past}
 use Rattle.timeline.proofs.Theorems.{numbers-of-a-call, length-of-a-call, history-of-a-call}
 use Rattle.quality.specs.Quality.{Sane}
 use Rattle.quality.specs.declared.QualityMapping.{QualityMapping}
+use Rattle.rates.specs.Setting.{settingAt, settingOf}
+use Rattle.rates.specs.declared.Setting.{Setting}
 use Rattle.rates.proofs.Limits.{rate-fits}
+use Rattle.filter.specs.Settings.{tableOf}
+use Rattle.filter.proofs.Settings.{length-table}
+use Rattle.reshape.proofs.Excess.{reshaped-keeps}
 use Rattle.rounds.specs.Output.{weighOf}
 use Rattle.state.specs.State.{settingIn}
 use Rattle.state.specs.declared.ResamplerState.{ResamplerState}
 use Rattle.judge.specs.Verdicts.{rateVerdict, processVerdict, resetVerdict, skipVerdict}
 use Rattle.judge.specs.declared.Verdict.{Verdict}
 use Rattle.judge.specs.declared.Verdict.the-variants.{Act}
-use Rattle.judge.proofs.Judged.{process-act}
+use Rattle.judge.proofs.Judged.{process-act, reset-act}
+use Rattle.update.specs.Updated.{changeOf, withSetting}
+use Rattle.update.proofs.Updates as updates
 use Rattle.process.specs.Process.{rateIn, placeIn, played, playedOutput}
 use Rattle.process.proofs.Processes as processes
-use Rattle.resampler.specs.Answers.{refused, accepted, byVerdict}
+use Rattle.resampler.specs.Answers.{Told, refused, accepted, byVerdict}
 use Rattle.resampler.specs.Entries.{rateTold, rateHistory, rateCoefficients, playedTold, processTold, processHistory, processOutput, resetTold, resetHistory, skipTold}
-use Rattle.pinned.specs.Pinned.{Unmoved, IsRefused, PastWritten}
+use Rattle.pinned.specs.Pinned.{Unmoved, IsRefused, historyUsed, coefficientsUsed, PastWritten}
 use Rattle.pinned.proofs.Verdicts.{cases, refused-by}
 
 -- ---- a refused call
@@ -57,6 +65,50 @@ module _ (row : QualityMapping) (s : ResamplerState) where
       let v = refused-by (skipVerdict row s) s s _ 0 0 h in
       rw (v .1) (record { consumed = refl; written = refl; state = refl })
 
+-- ---- any call, refused or accepted: each lent slice keeps its length and what lies past what is used of it
+kept-by : (used : Told → ℕ) (s : ResamplerState) (v : Verdict) (done : Told) (before after : List Float) → (v ≡ Act → KeptFrom (used done) before after)
+    → KeptFrom (used (byVerdict v (λ r. refused r s) (accepted s 0 0) done)) before (byVerdict v (λ r. before) before after)
+kept-by used s v done before after f =
+    cases
+    (λ (w : Verdict). KeptFrom (used (byVerdict w (λ r. refused r s) (accepted s 0 0) done)) before (byVerdict w (λ r. before) before after))
+    v
+    (λ r. record { long = refl; excess = refl })
+    (λ e. record { long = refl; excess = refl })
+    f
+
+-- where its first k entries were written
+front-kept : (before s : List Float) (k : ℕ) → k ≤ length before → k ≤ length s → KeptFrom k before (paste before 0 s k)
+front-kept before s k h l = record { long = length-paste before 0 s k (omega arith) l; excess = drop-past before s 0 k k (omega arith) (omega arith) l }
+
+module _ (row : QualityMapping) (sane : Sane row) (s : ResamplerState) where
+  -- ---- set rate
+  module _ (source : ℕ) (mem coefs : List Float) where
+    abbrev ready : rateVerdict row s source (length mem) (length coefs) ≡ Act → updates.Ready row s source (length mem) (length coefs)
+    ready = updates.ready row sane s source (length mem) (length coefs)
+
+    abbrev setting : Setting
+    setting = settingOf row source (s .target)
+
+    -- the history keeps its length, and its entries from the new alloc on; the coefficients keep what lies past the new table
+    pub rate-keeps-excess : KeptFrom (historyUsed (rateTold row s source mem coefs)) mem (rateHistory row s source mem coefs)
+        × KeptFrom (coefficientsUsed (rateTold row s source mem coefs)) coefs (rateCoefficients row s source mem coefs)
+    unfolding rateTold rateHistory rateCoefficients withSetting settingOf settingAt
+    rate-keeps-excess = (
+      kept-by historyUsed s (rateVerdict row s source (length mem) (length coefs)) _ mem _
+          (λ v. reshaped-keeps mem (changeOf s setting) (ready v .change)),
+      kept-by coefficientsUsed s (rateVerdict row s source (length mem) (length coefs)) _ coefs _
+          (λ v.
+          let fits = ready v .table in
+          front-kept coefs (tableOf setting) (setting .coefs) (fits .room) (omega (arith, length-table setting (length coefs) fits))),
+    )
+
+  -- ---- reset: the history keeps its length, and its entries from alloc on
+  pub reset-keeps-excess : (mem : List Float) → KeptFrom (historyUsed (resetTold row s mem)) mem (resetHistory row s mem)
+  unfolding resetTold resetHistory
+  reset-keeps-excess mem =
+      kept-by historyUsed s (resetVerdict row s (length mem)) _ mem _
+      (λ v. front-kept mem _ (s .«mem_alloc_size») (reset-act row s (length mem) v .history) (simp length-replicate (omega arith)))
+
 -- ---- a process call, refused or accepted
 module _ (row : QualityMapping) (sane : Sane row) (s : ResamplerState) (mem coefs input out : List Float) where
   abbrev verdict : Verdict
@@ -68,7 +120,7 @@ module _ (row : QualityMapping) (sane : Sane row) (s : ResamplerState) (mem coef
   numbers-are : done .numbers ≡ call (rateIn s) (s .«magic_samples») (length input) (length out) (placeIn s)
   numbers-are = numbers-of-a-call (weighOf (settingIn s) coefs) (rateIn s) (s .«magic_samples») input (length out) (placeIn s) mem
 
-  played-keeps : verdict ≡ Act → Kept (rateIn s) mem (done .mem)
+  played-keeps : verdict ≡ Act → KeptFrom (rateIn s .alloc) mem (done .mem)
   played-keeps v =
       let k = processes.ready row sane s (length mem) (length coefs) (length input) (length out) v in
       history-of-a-call (weighOf (settingIn s) coefs) (rateIn s) (s .«magic_samples») input (length out) (placeIn s) mem
@@ -77,13 +129,10 @@ module _ (row : QualityMapping) (sane : Sane row) (s : ResamplerState) (mem coef
       (omega (arith, k .rated .magic))
 
   -- the history keeps its length, and its entries from alloc on
-  pub process-keeps-excess : Kept (rateIn s) mem (processHistory row s mem coefs input out)
-  unfolding processHistory
+  pub process-keeps-excess : KeptFrom (historyUsed (processTold row s mem coefs input out)) mem (processHistory row s mem coefs input out)
+  unfolding processTold processHistory
   process-keeps-excess =
-      cases (λ (v : Verdict). Kept (rateIn s) mem (byVerdict v (λ r. mem) mem (done .mem))) verdict
-      (λ r. record { long = refl; excess = refl })
-      (λ v. record { long = refl; excess = refl })
-      played-keeps
+      kept-by historyUsed s verdict _ mem _ played-keeps
 
   written-out : length (done .out) ≡ done .numbers .turn .written
   written-out =
@@ -100,8 +149,7 @@ module _ (row : QualityMapping) (sane : Sane row) (s : ResamplerState) (mem coef
       record {
         consumed = consumed;
         written = written;
-        long = length-paste out 0 (done .out) (done .numbers .turn .written) (omega arith) enough;
-        rest = drop-past out (done .out) 0 (done .numbers .turn .written) (done .numbers .turn .written) (omega arith) (omega arith) enough;
+        rest = front-kept out (done .out) (done .numbers .turn .written) written enough;
       }
 
   -- the output keeps its length, and what lies past the written count
@@ -113,6 +161,6 @@ module _ (row : QualityMapping) (sane : Sane row) (s : ResamplerState) (mem coef
       PastWritten (byVerdict v (λ r. refused r s) (accepted s 0 0) (playedTold s (length input) (length out) (done .numbers))) input out
       (byVerdict v (λ r. out) out (playedOutput done out)))
       verdict
-      (λ r. record { consumed = omega arith; written = omega arith; long = refl; rest = refl })
-      (λ v. record { consumed = omega arith; written = omega arith; long = refl; rest = refl })
+      (λ r. record { consumed = omega arith; written = omega arith; rest = record { long = refl; excess = refl } })
+      (λ v. record { consumed = omega arith; written = omega arith; rest = record { long = refl; excess = refl } })
       played-past

@@ -4,11 +4,12 @@
 use mathlib.Core.Path.{_≡_}
 use mathlib.Core.Bool.{true}
 use mathlib.Core.List.{List}
-use Prim.Native.Nat.{_≤_}
+use Prim.Native.Nat.{ℕ, _≤_}
 use lib.Ieee.{Float}
-use lib.ListN.{length, drop}
+use lib.ListN.{length}
+use Rattle.timeline.specs.Laws.{KeptFrom}
 use Rattle.quality.specs.declared.QualityMapping.{QualityMapping}
-use Rattle.state.specs.State.{zeroState}
+use Rattle.state.specs.State.{zeroState, settingIn}
 use Rattle.state.specs.Belongs.{belongsTogether}
 use Rattle.state.specs.declared.ResamplerState.{ResamplerState}
 use Rattle.judge.specs.declared.Refusal.the-variants.{Rate, State}
@@ -32,12 +33,19 @@ newRefused = refused Rate zeroState
 abbrev pub zeroRefused : Told
 zeroRefused = refused State zeroState
 
--- a lent output, before and after a call: it keeps its length and what lies past the written count, and the counts keep within the input and the output
+-- the output keeps what lies past the written count, and the counts keep within the input and the output
 pub record PastWritten (t : Told) (input before after : List Float) : Type 0 where
   pub consumed : t .consumed ≤ length input
   pub written : t .written ≤ length before
-  pub long : length after ≡ length before
-  pub rest : drop (t .written) after ≡ drop (t .written) before
+  pub rest : KeptFrom (t .written) before after
+
+-- how much of the history is used: alloc entries, by the state that the call hands back
+abbrev pub historyUsed : Told → ℕ
+historyUsed t = t .state .«mem_alloc_size»
+
+-- how many of the coefficients: as many as that state's setting has
+abbrev pub coefficientsUsed : Told → ℕ
+coefficientsUsed t = settingIn (t .state) .coefs
 
 -- an accepted call hands back a state whose numbers belong together
 abbrev pub Belonging : QualityMapping → Told → Type 0

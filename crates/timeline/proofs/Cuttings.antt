@@ -10,7 +10,7 @@ use lib.Seq.{drop-drop}
 use Rattle.timeline.specs.Numbers.{Rate, Place, Called, Fit, still}
 use Rattle.timeline.specs.Samples.{Played, unplayed, playCall}
 use Rattle.timeline.specs.Recording.{Offer, playOneMore, playCalls}
-use Rattle.timeline.specs.Laws.{Kept}
+use Rattle.timeline.specs.Laws.{KeptFrom}
 use Rattle.timeline.proofs.Places.{lifted, lifted-none}
 use Rattle.timeline.proofs.History.{call-keeps, kept-both}
 use Rattle.timeline.proofs.Lines.{Tells, tell-both, call-tells}
@@ -19,7 +19,7 @@ module _ {A : Type 0} (weigh : ℕ → List A → A) (r : Rate) (fit : Fit r) wh
   -- any calls of a recording of the samples xs, which follow the first n-1+m entries of the line
   pub record Plays (m : ℕ) (p : Place) (xs line before : List A) (h : Played Called A) : Type 0 where
     pub tells : Tells weigh r m (length xs) p line h
-    pub kept : Kept r before (h .mem)
+    pub kept : KeptFrom (r .alloc) before (h .mem)
 
   module _ (m : ℕ) (p : Place) (xs line before : List A)
       (h : r .alloc ≤ length before) (k : r .n - 1 + m ≤ r .alloc) (f : drop (r .n - 1 + m) line ≡ xs) where
@@ -65,7 +65,7 @@ module _ {A : Type 0} (weigh : ℕ → List A → A) (r : Rate) (fit : Fit r) wh
               tell-both weigh r g (playCall weigh r left given (o .room) at (g .mem)) (a .tells)
               (call-tells weigh r fit left (length xs - c) (drop from line) (g .mem) given rest (o .room) at
               (simp (length-take, length-drop) (omega arith)) sized fits (a .tells .history) next);
-          kept = kept-both r (a .kept) (call-keeps r weigh fit left given (o .room) at (g .mem) sized fits);
+          kept = kept-both (a .kept) (call-keeps r weigh fit left given (o .room) at (g .mem) sized fits);
         }
 
     pub calls-play : (os : List Offer) (g : Played Called A) → Plays m p xs line before g

@@ -8,7 +8,7 @@ use lib.ListN.{length, take, getD}
 use Rattle.timeline.specs.Numbers.{Rate, Place, Called, Fit, call}
 use Rattle.timeline.specs.Samples.{outputs, playCall}
 use Rattle.timeline.specs.Recording.{Offer, start, recorded, closed, recording, closedRecording, streamOutput, streamOutputs}
-use Rattle.timeline.specs.Laws.{CallLaw, Law, Kept, AllRead, Ceiling, upwards, DifferWithin, Misses}
+use Rattle.timeline.specs.Laws.{CallLaw, Law, KeptFrom, AllRead, Ceiling, upwards, DifferWithin, Misses}
 use Rattle.timeline.proofs.Law.{call-law, recording-law, recorded-moves}
 use Rattle.timeline.proofs.Bound.{call-position}
 use Rattle.timeline.proofs.Count.{closed-count, ceiling-is, one-more-reads, calls-last}
@@ -41,7 +41,7 @@ module _ {A : Type 0} (weigh : ℕ → List A → A) (r : Rate) (m : ℕ) (s : L
 
   module _ (fit : Fit r) (long : r .alloc ≤ length mem) (holds : r .n - 1 + m ≤ r .alloc) where
     -- the history keeps its length and what lies past alloc
-    pub history-of-a-call : Kept r mem (playCall weigh r m s room p mem .mem)
+    pub history-of-a-call : KeptFrom (r .alloc) mem (playCall weigh r m s room p mem .mem)
     history-of-a-call = call-keeps r weigh fit m s room p mem long holds
 
     -- the outputs are those of one long history, in which the past, the magic samples and all of the input stand side by side

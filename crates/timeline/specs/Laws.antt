@@ -18,10 +18,10 @@ pub record CallLaw (r : Rate) (m inn room : ℕ) (p : Place) (c : Called) : Type
       ≡ r .den * p .position + p .phase + c .turn .written * r .num
   pub phase : c .turn .place .phase < r .den
 
--- a history that kept its length, and its entries from alloc on
-pub record Kept {A : Type 0} (r : Rate) (before after : List A) : Type 0 where
+-- a lent slice, before and after: it kept its length, and its entries from `from` on
+pub record KeptFrom {A : Type 0} (from : ℕ) (before after : List A) : Type 0 where
   pub long : length after ≡ length before
-  pub excess : drop (r .alloc) after ≡ drop (r .alloc) before
+  pub excess : drop from after ≡ drop from before
 
 -- a recording, after T samples consumed and k outputs: den*(T+position)+phase is den*(n/2)+k*num
 pub record Law (r : Rate) (t : Turn) : Type 0 where

@@ -1,5 +1,5 @@
 -- `update::phase_after` meets its contract: a product of two u32 fits 64 bits. Assumes nothing.
-use Prim.Native.Nat.{_*_, _≤_, _<_, _^_}
+use Prim.Native.Nat.{_≤_}
 use native.Mathlib.Nat.{mul-le-mul}
 use native.Mathlib.Omega.{arith}
 use borrow.Author.Needs.{needs}
