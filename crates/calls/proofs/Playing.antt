@@ -27,8 +27,9 @@ less-room : (s o read done c w : ℕ) → read + c ≤ s → done < o → o - do
 less-room s o read done c w h k l = omega arith
 
 -- the first round over the input, once a chunk is copied in
-pub chunk-wrote : {A : Type 0} (weigh : ℕ → List A → A) (r : Rate) (s : List A) (room : ℕ) (p : Place) (mem : List A) {mem' left before after : List A} {t : Turn} (i : ℕ)
-    → i ≡ min (length s) (chunk r) → mem' ≡ paste mem (r .n - 1) s i → Wrote (playRound weigh r i room p mem') t left before after
+pub chunk-wrote : {A : Type 0} (weigh : ℕ → List A → A) (r : Rate) (s : List A) (room : ℕ) (p : Place) (mem : List A)
+    {mem' left before after : List A} {t : Turn} (i : ℕ) → i ≡ min (length s) (chunk r) → mem' ≡ paste mem (r .n - 1) s i
+    → Wrote (playRound weigh r i room p mem') t left before after
     → Wrote (playChunk weigh r s room p mem) t left before after
 chunk-wrote {A} weigh r s room p mem {mem'} {left} {before} {after} {t} i e f w =
     subst (λ (h : Played Turn A). Wrote h t left before after)
@@ -114,14 +115,14 @@ module _ {A : Type 0} (weigh : ℕ → List A → A) (r : Rate) (s mem₀ out₀
     ]
 
     -- what a chunk's round over the rest of the input wrote into the rest of the output
-    module _ {t : Turn} {s' lent' left part : List A} (es : s' ≡ drop read s) (eo : lent' ≡ drop done out)
-        (w : Wrote (playChunk weigh r s' (length lent') q mem) t left lent' part) where
+    module _ {t : Turn} {lent-in lent-out left part : List A} (es : lent-in ≡ drop read s) (eo : lent-out ≡ drop done out)
+        (w : Wrote (playChunk weigh r lent-in (length lent-out) q mem) t left lent-out part) where
       wrote : Wrote h t left (drop done out) part
       wrote =
           let el : length (drop done out) ≡ room = length-drop done out ∙ ap (λ (k : ℕ). k - done) (v .long) in
           subst (λ (k : ℕ). Wrote (playChunk weigh r (drop read s) k q mem) t left (drop done out) part) el
           (subst (λ (l : List A). Wrote (playChunk weigh r l (length (drop done out)) q mem) t left (drop done out) part) es
-          (subst (λ (l : List A). Wrote (playChunk weigh r s' (length l) q mem) t left l part) eo w))
+          (subst (λ (l : List A). Wrote (playChunk weigh r lent-in (length l) q mem) t left l part) eo w))
 
       pub goes-on : Turned read done t left out part
       goes-on = record { reads = reads; writes = writes; less = rw (wrote .numbers) less; again = again }
@@ -132,13 +133,15 @@ module _ {A : Type 0} (weigh : ℕ → List A → A) (r : Rate) (s mem₀ out₀
           writes : done + t .written ≤ length out₀
           writes = rw (wrote .numbers) writes-within
 
-          joined : Wrote (playThen andThen (v .so-far) h) (record { consumed = read + t .consumed; written = done + t .written; place = t .place }) left out₀ (take done out ++ part)
+          joined : Wrote (playThen andThen (v .so-far) h)
+              (record { consumed = read + t .consumed; written = done + t .written; place = t .place }) left out₀ (take done out ++ part)
           joined = then-wrote done (v .wrote) (v .count) wrote andThen
 
           number : length (v .so-far .out ++ h .out) ≡ done + t .written
           number =
               length-append (v .so-far .out) (h .out)
-              ∙ ap₂ (λ (x y : ℕ). x + y) (v .count) (length-outputs weigh r _ (h .numbers .written) q ∙ ap (λ (u : Turn). u .written) (sym (wrote .numbers)))
+              ∙ ap₂ (λ (x y : ℕ). x + y) (v .count)
+              (length-outputs weigh r _ (h .numbers .written) q ∙ ap (λ (u : Turn). u .written) (sym (wrote .numbers)))
 
           after : Played Turn A
           after = playRounds weigh r (drop (h .numbers .consumed) (drop read s)) (room - h .numbers .written) (h .numbers .place) (h .mem)
@@ -151,7 +154,8 @@ module _ {A : Type 0} (weigh : ℕ → List A → A) (r : Rate) (s mem₀ out₀
               (ap₂ (λ (l : List A) (k : ℕ). playRounds weigh r l k (h .numbers .place) (h .mem))
               (sym (drop-drop (h .numbers .consumed) read s)) (sub-add-eq (length out₀) done (h .numbers .written)))
               ∙ sym (play-assoc (v .so-far) h after)
-              ∙ ap (playThen andThen (v .so-far)) (sym (play-rounds-go-on weigh r fit (drop read s) room q mem (omega (arith, in-left)) (omega arith)))
+              ∙ ap (playThen andThen (v .so-far))
+              (sym (play-rounds-go-on weigh r fit (drop read s) room q mem (omega (arith, in-left)) (omega arith)))
               ∙ v .rest
 
           again : Playing (read + t .consumed) (done + t .written) (t .place) left (take done out ++ part)

@@ -51,7 +51,7 @@ fn process_chunk(
 fn process_chunks(
     setting: Setting,
     alloc: usize,
-    place: Place,
+    mut place: Place,
     mem: &mut [f32],
     coefs: &[f32],
     input: &[f32],
@@ -62,7 +62,6 @@ fn process_chunks(
 {
     let mut read = 0;
     let mut done = 0;
-    let mut place = place;
     while read < input.len() && done < out.len() {
         let turn = process_chunk(
             setting,
@@ -105,18 +104,13 @@ fn process_magic(
         };
         return Called { turn, magic };
     }
-    let turn = process_native(setting, place, mem, coefs, magic, out);
+    let mut turn = process_native(setting, place, mem, coefs, magic, out);
     let consumed = turn.consumed.0 as usize;
     let left = magic - consumed;
     let at = setting.filt_len as usize - 1;
     history::move_down(mem, at + consumed, at, left);
-    let written = turn.written;
-    let place = turn.place;
-    let turn = Turn {
-        consumed: Consumed(0),
-        written,
-        place,
-    };
+    // They are no samples of the input, so none counts as consumed.
+    turn.consumed.0 = 0;
     Called { turn, magic: left }
 }
 
@@ -139,15 +133,9 @@ pub fn process_call(
         return first;
     }
     let place = first.turn.place;
-    let done = first.turn.written.0;
-    let at = done as usize;
-    let rest = process_chunks(setting, alloc, place, mem, coefs, input, &mut out[at..]);
-    let consumed = rest.consumed;
-    let place = rest.place;
-    let turn = Turn {
-        consumed,
-        written: Written(done + rest.written.0),
-        place,
-    };
+    let done = first.turn.written.0 as usize;
+    let mut turn = process_chunks(setting, alloc, place, mem, coefs, input, &mut out[done..]);
+    let written = done as u64 + turn.written.0;
+    turn.written.0 = written;
     Called { turn, magic: 0 }
 }

@@ -25,7 +25,8 @@ magic-at c = c .before .before .before .before .before .before .before .before .
 within : (c : tie.After-process-magic) → c .process-magic .result .turn .written .0 ≤ length (now (start c .args .out))
 within c =
     let a = start c .args in
-    written-fits (weighOf (a .setting) (now (a .coefs))) (rateWith (a .setting) (a .alloc)) (a .magic) (length (now (a .out))) (placeOf (a .place)) (now (a .mem))
+    written-fits (weighOf (a .setting) (now (a .coefs))) (rateWith (a .setting) (a .alloc)) (a .magic)
+    (length (now (a .out))) (placeOf (a .place)) (now (a .mem))
     (c .process-magic .ensures (a .alloc))
 
 process-magic-requires : tie.Need-process-magic-requires
@@ -42,7 +43,8 @@ returns : tie.Need-returns
 returns c =
     let m = c .before .before .before .before .before .before in
     let a = start m .args in
-    left-wrote (weighOf (a .setting) (now (a .coefs))) (rateWith (a .setting) (a .alloc)) (a .magic) (length (now (a .out))) (placeOf (a .place)) (now (a .mem))
+    left-wrote (weighOf (a .setting) (now (a .coefs))) (rateWith (a .setting) (a .alloc)) (a .magic)
+    (length (now (a .out))) (placeOf (a .place)) (now (a .mem))
     (m .process-magic .ensures (a .alloc)) (now (a .input)) (c .if1 .taken)
 
 mul-process-chunks : tie.Need-mul-process-chunks
@@ -73,9 +75,9 @@ process-chunks-requires c κs =
     (position-after weigh r (a .magic) (length (now (a .out))) (placeOf (a .place)) (now (a .mem)) w (fit f .den) (f .phase) (slow f) (f .position))
     (m .process-magic .kept .1 .1 .1 .0)
 
-add-t29 : tie.Need-add-t29
-add-t29 c =
-    let k = c .before .before .before .before .before .before .before in
+add-written : tie.Need-add-written
+add-written c =
+    let k = c .before .before .before .before .before in
     let m = magic-at k in
     let a = start m .args in
     let out = m .process-magic .last .1 .1 .1 .1 .1 .0 in
@@ -92,13 +94,14 @@ same-length-4 c = search needs
 
 returns-2 : tie.Need-returns-2
 returns-2 c =
-    let k = c .before .before .before .before .before .before .before in
+    let k = c .before .before .before .before .before .before in
     let m = magic-at k in
     let a = start m .args in
     let out = m .process-magic .last .1 .1 .1 .1 .1 .0 in
     let done = m .process-magic .result .turn .written .0 in
     rw (put-back done out (k .process-chunks .last .1 .1 .1 .1 .1 .1 .0))
-    (spent-wrote (weighOf (a .setting) (now (a .coefs))) (rateWith (a .setting) (a .alloc)) (a .magic) (length (now (a .out))) (placeOf (a .place)) (now (a .mem))
+    (spent-wrote (weighOf (a .setting) (now (a .coefs))) (rateWith (a .setting) (a .alloc)) (a .magic)
+    (length (now (a .out))) (placeOf (a .place)) (now (a .mem))
     (m .process-magic .ensures (a .alloc)) (now (a .input)) (omega (arith, k .before .before .before .before .if1 .left)) (m .process-magic .kept .1 .1 .1 .1 .1 .0)
     (the-rest done out) (k .process-chunks .ensures))
 
@@ -115,7 +118,7 @@ process-call-spec =
     part-process-chunks-start
     part-process-chunks-end
     process-chunks-requires
-    add-t29
+    add-written
     same-length-3
     same-length-4
     returns-2)

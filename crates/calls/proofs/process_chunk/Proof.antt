@@ -62,7 +62,8 @@ returns c =
     let n = c .before .before .before .before in
     let m = n .before .before .before .before .before in
     let a = start (copied m) .args in
-    chunk-wrote (weighOf (a .setting) (now (a .coefs))) (rateWith (a .setting) (a .alloc)) (now (a .input)) (length (now (a .out))) (placeOf (a .place)) (now (a .mem))
+    chunk-wrote (weighOf (a .setting) (now (a .coefs))) (rateWith (a .setting) (a .alloc)) (now (a .input))
+    (length (now (a .out))) (placeOf (a .place)) (now (a .mem))
     (copied m .if1 .count) (count-is (copied m)) (m .copy-in .ensures) (n .process-native .ensures (a .alloc))
 
 pub process-chunk-spec : {M : Type 1} → statement M

@@ -17,11 +17,11 @@ use Rattle.calls.proofs.process_chunks.Statement.{statement}
 use Rattle.calls.proofs.process_chunks.Tie as tie
 
 abbrev Inv-loop : tie.InvT-loop
-Inv-loop setting alloc mem₀ coefs input out₀ read₀ done₀ place₀ mem out read done place =
+Inv-loop setting alloc place₀ mem₀ coefs input out₀ read₀ done₀ place mem out read done =
     Playing (weighOf setting coefs) (rateWith setting alloc) input mem₀ out₀ (placeOf place₀) read done (placeOf place) mem out
 
 abbrev μ-loop : tie.MeasureT-loop
-μ-loop setting alloc mem₀ coefs input out₀ read₀ done₀ place₀ mem out read done place = length input - read + (length out₀ - done)
+μ-loop setting alloc place₀ mem₀ coefs input out₀ read₀ done₀ place mem out read done = length input - read + (length out₀ - done)
 
 -- the head of the loop and where the function starts, from the call
 abbrev head : tie.After-process-chunk Inv-loop μ-loop → tie.At-loop Inv-loop μ-loop
@@ -41,7 +41,7 @@ turned c =
     let f = start (head c) .pre in
     let v = head c .loop in
     goes-on (weighOf (a .setting) (now (a .coefs))) (rateWith (a .setting) (a .alloc)) (now (a .input)) (now (a .mem)) (now (a .out)) (placeOf (a .place))
-    (fit f) (slow f) (f .lent) (v .inv) (c .before .before .before .before .before .loop-test .taken)
+    (fit f) (slow f) (f .lent) (v .inv) (omega (arith, c .before .before .before .before .before .loop-test .taken))
     (omega (arith, ltb-true (v .done) (length (v .out)) (c .before .before .before .before .if1 .taken), v .inv .long))
     (the-rest (v .read) (now (a .input))) (the-rest (v .done) (v .out)) (c .process-chunk .ensures)
 

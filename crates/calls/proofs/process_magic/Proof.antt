@@ -19,13 +19,15 @@ start c = c .before .before .before .before .before .before .before
 within : (c : tie.After-process-native) → c .process-native .result .consumed .0 ≤ start c .args .magic
 within c =
     let a = start c .args in
-    consumes (weighOf (a .setting) (now (a .coefs))) (rateWith (a .setting) 0) (a .magic) (length (now (a .out))) (placeOf (a .place)) (now (a .mem))
+    consumes (weighOf (a .setting) (now (a .coefs))) (rateWith (a .setting) 0) (a .magic)
+    (length (now (a .out))) (placeOf (a .place)) (now (a .mem))
     (c .process-native .ensures 0)
 
 returns : tie.Need-returns
 returns c alloc =
     let a = c .before .before .before .before .args in
-    none-wrote (weighOf (a .setting) (now (a .coefs))) (rateWith (a .setting) alloc) (a .magic) (length (now (a .out))) (placeOf (a .place)) (now (a .mem))
+    none-wrote (weighOf (a .setting) (now (a .coefs))) (rateWith (a .setting) alloc) (a .magic)
+    (length (now (a .out))) (placeOf (a .place)) (now (a .mem))
     (now (a .out)) (c .if1 .taken)
 
 process-native-requires : tie.Need-process-native-requires
@@ -58,10 +60,11 @@ same-length-2 c = search needs
 
 returns-2 : tie.Need-returns-2
 returns-2 c alloc =
-    let m = c .before .before .before .before in
+    let m = c .before .before .before in
     let d = m .before .before .before .before .before .before .before in
     let a = start d .args in
-    some-wrote (weighOf (a .setting) (now (a .coefs))) (rateWith (a .setting) alloc) (a .magic) (length (now (a .out))) (placeOf (a .place)) (now (a .mem))
+    some-wrote (weighOf (a .setting) (now (a .coefs))) (rateWith (a .setting) alloc) (a .magic)
+    (length (now (a .out))) (placeOf (a .place)) (now (a .mem))
     (omega (arith, d .before .before .before .if1 .left)) (d .process-native .ensures alloc) (m .move-down .ensures)
 
 pub process-magic-spec : {M : Type 1} → statement M
