@@ -26,11 +26,10 @@ pub enum Refusal {
     State,
 }
 
-// What a call is to do. `Same`: it is accepted, and nothing is to be done.
+// What becomes of a call: it is refused, or it is accepted.
 pub enum Verdict {
     Refuse(Refusal),
-    Same,
-    Act,
+    Accept,
 }
 
 // A new state for a target rate.
@@ -38,7 +37,7 @@ pub fn judge_new(target: u32) -> Verdict
     ensures { λ r. ⌜ r ≡ newVerdict target ⌝ }
 {
     if sizes::in_limits(target) {
-        return Verdict::Act;
+        return Verdict::Accept;
     }
     Verdict::Refuse(Refusal::Rate)
 }
@@ -61,7 +60,7 @@ pub fn judge_rate(
         return Verdict::Refuse(Refusal::Rate);
     }
     if state.source == source {
-        return Verdict::Same;
+        return Verdict::Accept;
     }
     let setting = Setting::new(row, source, state.target);
     if mem_len < history_after(state.mem_alloc_size, setting.filt_len) as usize {
@@ -70,10 +69,10 @@ pub fn judge_rate(
     if coefs_len < setting.coefs as usize {
         return Verdict::Refuse(Refusal::Coefficients);
     }
-    Verdict::Act
+    Verdict::Accept
 }
 
-// Processing. A full output, `out_len` 0, is no reason to refuse; an empty input is.
+// Processing. An output without room is no reason to refuse; an empty input is.
 pub fn judge_process(
     row: QualityMapping,
     state: ResamplerState,
@@ -103,7 +102,7 @@ pub fn judge_process(
     if (MAX_CALL < in_len) | (MAX_CALL < out_len) {
         return Verdict::Refuse(Refusal::TooLong);
     }
-    Verdict::Act
+    Verdict::Accept
 }
 
 // Resetting. Without a source rate no history is needed yet.
@@ -118,7 +117,7 @@ pub fn judge_reset(row: QualityMapping, state: ResamplerState, mem_len: usize) -
     if mem_len < alloc {
         return Verdict::Refuse(Refusal::History);
     }
-    Verdict::Act
+    Verdict::Accept
 }
 
 // Skipping the zeros that a stream starts with.
@@ -127,7 +126,7 @@ pub fn judge_skip(row: QualityMapping, state: ResamplerState) -> Verdict
     ensures { λ r. ⌜ r ≡ skipVerdict row state ⌝ }
 {
     if state.belongs(row) {
-        return Verdict::Act;
+        return Verdict::Accept;
     }
     Verdict::Refuse(Refusal::State)
 }

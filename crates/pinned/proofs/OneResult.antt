@@ -44,7 +44,7 @@ answered-told (Refused NoRate s) = refl
 answered-told (Refused State s) = refl
 answered-told (Accepted s consumed written) = refl
 
-pub told-apart : (a b : Answer) → told a ≡ told b → a ≡ b
+told-apart : (a b : Answer) → told a ≡ told b → a ≡ b
 told-apart a b e = sym (answered-told a) ∙ ap answered e ∙ answered-told b
 
 -- ---- each call

@@ -11,21 +11,19 @@ use lib.ListN.{length}
 use Rattle.sizes.specs.Sizes.{InLimits, inLimits, historyNeeded}
 use Rattle.sizes.proofs.Tests.{test-passed}
 use Rattle.timeline.specs.Numbers.{Called, call, runs}
-use Rattle.timeline.proofs.Theorems.{numbers-of-a-call}
 use Rattle.quality.specs.Quality.{Sane}
 use Rattle.quality.specs.declared.QualityMapping.{QualityMapping}
 use Rattle.rates.specs.Setting.{settingAt, settingOf}
 use Rattle.reshape.specs.Reshaped.{reshapedMagic}
 use Rattle.reshape.specs.declared.Change.{Change}
-use Rattle.rounds.specs.Output.{weighOf}
 use Rattle.state.specs.State.{freshState, zeroState, settingIn, movedTo}
 use Rattle.state.specs.Belongs.{positionBound, belongsTogether}
 use Rattle.state.specs.declared.ResamplerState.{ResamplerState}
 use Rattle.state.proofs.Belonging.{Fresh, Rated, belongs-is, fresh-state-belongs, rated-belongs}
 use Rattle.judge.specs.Verdicts.{newVerdict, rateVerdict, processVerdict, resetVerdict, skipVerdict}
 use Rattle.judge.specs.declared.Verdict.{Verdict}
-use Rattle.judge.specs.declared.Verdict.the-variants.{Same, Act}
-use Rattle.judge.proofs.Judged.{new-act, rate-same, reset-act, skip-act, new-not-same, process-not-same, reset-not-same, skip-not-same, zero-gets-7}
+use Rattle.judge.specs.declared.Verdict.the-variants.{Accept}
+use Rattle.judge.proofs.Judged.{new-accepts, rate-accepts, reset-accepts, skip-accepts, zero-gets-7}
 use Rattle.update.specs.Updated.{changeOf, withSetting, updatedState}
 use Rattle.update.proofs.Updates as updates
 use Rattle.process.specs.Process.{rateIn, placeIn, played, startedAfter, playedState}
@@ -33,21 +31,19 @@ use Rattle.process.proofs.Processes as processes
 use Rattle.resampler.specs.Answers.{Told, refused, byVerdict}
 use Rattle.resampler.specs.Entries.{newTold, rateTold, processTold, resetTold, skipTold}
 use Rattle.pinned.specs.Pinned.{newRefused, zeroRefused, Belonging}
-use Rattle.pinned.proofs.Verdicts.{numbered, cases}
+use Rattle.pinned.proofs.Verdicts.{numbered, cases, same-or-other}
 
 -- ---- by the verdict: a refusal has a number, so it claims nothing
-belonging-by : (row : QualityMapping) (given : ResamplerState) (v : Verdict) (same done : Told)
-    → (v ≡ Same → Belonging row same) → (v ≡ Act → Belonging row done) → Belonging row (byVerdict v (λ r. refused r given) same done)
-belonging-by row given v same done f g =
-    cases (λ (w : Verdict). Belonging row (byVerdict w (λ r. refused r given) same done)) v (λ r e. absurd (omega (arith, numbered r))) f g
+belonging-by : (row : QualityMapping) (given : ResamplerState) (v : Verdict) (done : Told)
+    → (v ≡ Accept → Belonging row done) → Belonging row (byVerdict v (λ r. refused r given) done)
+belonging-by row given v done f =
+    cases (λ (w : Verdict). Belonging row (byVerdict w (λ r. refused r given) done)) v (λ r e. absurd (omega (arith, numbered r))) f
 
 -- ---- new state
 pub new-belongs : (row : QualityMapping) (target : ℕ) → Belonging row (newTold target)
 unfolding newTold
 new-belongs row target =
-    belonging-by row zeroState (newVerdict target) _ _
-    (λ v. absurd (new-not-same target v))
-    (λ v e. fresh-state-belongs row target (new-act target v))
+    belonging-by row zeroState (newVerdict target) _ (λ v e. fresh-state-belongs row target (new-accepts target v))
 
 -- ---- a state with a rate, at other numbers in all that moves
 record Moves (s : ResamplerState) (started position phase magic : ℕ) : Type 0 where
@@ -108,11 +104,13 @@ module _ (row : QualityMapping) (sane : Sane row) (s : ResamplerState) where
   pub rate-belongs : (source : ℕ) (mem coefs : List Float) → Belonging row (rateTold row s source mem coefs)
   unfolding rateTold
   rate-belongs source mem coefs =
-      belonging-by row s (rateVerdict row s source (length mem) (length coefs)) _ _
-      (λ v e. rate-same row s source (length mem) (length coefs) v .0)
+      belonging-by row s (rateVerdict row s source (length mem) (length coefs)) _
       (λ v e.
+      same-or-other (λ (same : Bool). belongsTogether row (cond same s (updatedState s source (settingOf row source (s .target)))) ≡ true) s source
+      (rate-accepts row s source (length mem) (length coefs) v .belongs)
+      (λ other.
       rated-belongs row (updatedState s source (settingOf row source (s .target))) sane
-      (updated-rated source (length mem) (length coefs) (updates.ready row sane s source (length mem) (length coefs) v)))
+      (updated-rated source (length mem) (length coefs) (updates.ready row sane s source (length mem) (length coefs) v other))))
 
   -- ---- process
   started-to : (t : Bool) → s .started ≤ 1 → cond t 1 (s .started) ≤ 1
@@ -141,14 +139,12 @@ module _ (row : QualityMapping) (sane : Sane row) (s : ResamplerState) where
   unfolding processTold
   process-belongs mem coefs input out =
       let c = played s coefs input (length out) mem .numbers in
-      belonging-by row s (processVerdict row s (length mem) (length coefs) (length input) (length out)) _ _
-      (λ v. absurd (process-not-same row s (length mem) (length coefs) (length input) (length out) v))
+      belonging-by row s (processVerdict row s (length mem) (length coefs) (length input) (length out)) _
       (λ v e.
       let r = processes.ready row sane s (length mem) (length coefs) (length input) (length out) v .rated in
       rated-belongs row (playedState s (length input) (length out) c) sane
       (rated-moved row s r
-      (called-moves (length input) (length out) r c
-      (numbers-of-a-call (weighOf (settingIn s) coefs) (rateIn s) (s .«magic_samples») input (length out) (placeIn s) mem))))
+      (called-moves (length input) (length out) r c (processes.played-numbers s mem coefs input (length out)))))
 
   -- ---- reset and skip: a fresh state stays as it is
   fresh-moved : Fresh s → (t : ResamplerState) → t ≡ freshState (s .target) → belongsTogether row t ≡ true
@@ -165,8 +161,7 @@ module _ (row : QualityMapping) (sane : Sane row) (s : ResamplerState) where
   pub reset-belongs : (mem : List Float) → Belonging row (resetTold row s mem)
   unfolding resetTold
   reset-belongs mem =
-      belonging-by row s (resetVerdict row s (length mem)) _ _
-      (λ v. absurd (reset-not-same row s (length mem) v))
+      belonging-by row s (resetVerdict row s (length mem)) _
       (λ v e.
       ⊎-elim (λ f. fresh-moved f _ (reset-fresh f))
       (λ (r : Rated row s).
@@ -179,13 +174,12 @@ module _ (row : QualityMapping) (sane : Sane row) (s : ResamplerState) where
         phase-to = omega (arith, r .phase);
         magic-to = omega (arith, r .alloc-from);
       })))
-      (belongs-is row s (reset-act row s (length mem) v .belongs)))
+      (belongs-is row s (reset-accepts row s (length mem) v .belongs)))
 
   pub skip-belongs : Belonging row (skipTold row s)
   unfolding skipTold
   skip-belongs =
-      belonging-by row s (skipVerdict row s) _ _
-      (λ v. absurd (skip-not-same row s v))
+      belonging-by row s (skipVerdict row s) _
       (λ v e.
       ⊎-elim (λ f. fresh-moved f _ (skip-fresh f))
       (λ (r : Rated row s).
@@ -198,7 +192,7 @@ module _ (row : QualityMapping) (sane : Sane row) (s : ResamplerState) where
         phase-to = r .phase;
         magic-to = r .magic;
       })))
-      (belongs-is row s (skip-act row s v)))
+      (belongs-is row s (skip-accepts row s v)))
 
 -- ---- a refused new state, and every later call with its state
 pub refused-new : (target : ℕ) → (InLimits target → ⊥) → newTold target ≡ newRefused

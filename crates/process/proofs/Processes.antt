@@ -26,8 +26,8 @@ use Rattle.state.specs.State.{settingIn, movedTo}
 use Rattle.state.specs.declared.ResamplerState.{ResamplerState}
 use Rattle.state.proofs.Belonging.{Rated, rated, rated-limits}
 use Rattle.judge.specs.Verdicts.{processVerdict}
-use Rattle.judge.specs.declared.Verdict.the-variants.{Act}
-use Rattle.judge.proofs.Judged.{process-act}
+use Rattle.judge.specs.declared.Verdict.the-variants.{Accept}
+use Rattle.judge.proofs.Judged.{process-accepts}
 use Rattle.process.specs.Process.{rateIn, placeIn, played, startedAfter, playedState, Plays}
 
 module _ (row : QualityMapping) (sane : Sane row) (s : ResamplerState) (h : Rated row s) where
@@ -75,16 +75,21 @@ as-played s mem coefs input out setting {c} {left} {after} e w =
     (λ (t : Setting). Wrote (playCall (weighOf t coefs) (rateWith t (s .«mem_alloc_size»)) (s .«magic_samples») input (length out) (placeIn s) mem) c left out after)
     e w
 
+-- the numbers of the call that a state makes, and how many its outputs are
+module _ (s : ResamplerState) (mem coefs input : List Float) (room : ℕ) where
+  pub played-numbers : played s coefs input room mem .numbers ≡ call (rateIn s) (s .«magic_samples») (length input) room (placeIn s)
+  played-numbers = numbers-of-a-call (weighOf (settingIn s) coefs) (rateIn s) (s .«magic_samples») input room (placeIn s) mem
+
+  pub played-length : length (played s coefs input room mem .out) ≡ played s coefs input room mem .numbers .turn .written
+  played-length =
+      length-of-a-call (weighOf (settingIn s) coefs) (rateIn s) (s .«magic_samples») input room (placeIn s) mem
+      ∙ sym (ap (λ (c : Called). c .turn .written) played-numbers)
+
 -- what a call wrote, as its contract says it
 module _ (s : ResamplerState) (mem coefs input out : List Float) {r : made.Called} {left after : List Float}
     (w : Wrote (played s coefs input (length out) mem) (calledOf r) left out after) where
   pub called-is : calledOf r ≡ call (rateIn s) (s .«magic_samples») (length input) (length out) (placeIn s)
-  called-is = w .numbers ∙ numbers-of-a-call (weighOf (settingIn s) coefs) (rateIn s) (s .«magic_samples») input (length out) (placeIn s) mem
-
-  written-is : length (played s coefs input (length out) mem .out) ≡ played s coefs input (length out) mem .numbers .turn .written
-  written-is =
-      length-of-a-call (weighOf (settingIn s) coefs) (rateIn s) (s .«magic_samples») input (length out) (placeIn s) mem
-      ∙ sym (ap (λ (c : Called). c .turn .written) (numbers-of-a-call (weighOf (settingIn s) coefs) (rateIn s) (s .«magic_samples») input (length out) (placeIn s) mem))
+  called-is = w .numbers ∙ played-numbers s mem coefs input (length out)
 
   pub plays : {t : ResamplerState}
       → t ≡ movedTo s (startedAfter s (length input) (length out)) (r .turn .place .position) (r .turn .place .phase) (r .magic)
@@ -94,20 +99,20 @@ module _ (s : ResamplerState) (mem coefs input out : List Float) {r : made.Calle
     consumed = ap (λ (c : Called). c .turn .consumed) (w .numbers);
     written = ap (λ (c : Called). c .turn .written) (w .numbers);
     history = w .mem;
-    outputs = w .out ∙ ap (paste out 0 (played s coefs input (length out) mem .out)) written-is;
+    outputs = w .out ∙ ap (paste out 0 (played s coefs input (length out) mem .out)) (played-length s mem coefs input (length out));
   }
 
--- what a verdict that a call is to be made says
+-- what an accepted call knows
 pub record Ready (row : QualityMapping) (s : ResamplerState) (mem coefs : ℕ) : Type 0 where
   pub sane : Sane row
   pub rated : Rated row s
   pub limits : Limits row (settingIn s)
   pub fits : CallFits (settingIn s) (s .«mem_alloc_size») (s .«magic_samples») (placeIn s) mem coefs
 
-pub ready : (row : QualityMapping) → Sane row → (s : ResamplerState) (mem coefs inn room : ℕ) → processVerdict row s mem coefs inn room ≡ Act
+pub ready : (row : QualityMapping) → Sane row → (s : ResamplerState) (mem coefs inn room : ℕ) → processVerdict row s mem coefs inn room ≡ Accept
     → Ready row s mem coefs
 ready row sane s mem coefs inn room e =
-    let v = process-act row s mem coefs inn room e in
+    let v = process-accepts row s mem coefs inn room e in
     let r = rated row s (v .belongs) (v .has-rate) in
     record {
       sane = sane;

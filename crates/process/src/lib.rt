@@ -1,8 +1,8 @@
-// One call of the resampler, once it is judged to be one: the state's numbers go into the call and
-// come back moved.
+// One call of the resampler, once it is accepted: the state's numbers go into the call and come back
+// moved.
 //
-// It refuses nothing and tests nothing: it asks for the verdict that a call is to be made, from which
-// all that its parts ask for follows.
+// It refuses nothing and tests nothing: it asks that the call was accepted, from which all that its
+// parts ask for follows.
 use calls::process_call;
 use quality::QualityMapping;
 use rounds::Consumed;
@@ -13,7 +13,7 @@ ghost use mathlib.Core.Path.{_≡_};
 ghost use lib.ListN.{length};
 ghost use Rattle.quality.specs.Quality.{Sane};
 ghost use Rattle.judge.specs.Verdicts.{processVerdict};
-ghost use Rattle.judge.specs.declared.Verdict.the-variants.{Act};
+ghost use Rattle.judge.specs.declared.Verdict.the-variants.{Accept};
 ghost use Rattle.process.specs.Process.{startedAfter, Plays};
 
 // What a call did: the state for the next one, how many samples were read and how many outputs made.
@@ -45,7 +45,7 @@ pub fn process(
     input: &[f32],
     out: &mut [f32],
 ) -> Processed
-    requires { ⌜ Sane row × (processVerdict row state (length (now mem)) (length (now coefs)) (length (now input)) (length (now out)) ≡ Act) ⌝ }
+    requires { ⌜ Sane row × (processVerdict row state (length (now mem)) (length (now coefs)) (length (now input)) (length (now out)) ≡ Accept) ⌝ }
     ensures { λ r. ⌜ Plays state (now (mem .entry)) (now (coefs .entry)) (now (input .entry)) (now (out .entry)) r (now (mem .exit)) (now (out .exit)) ⌝ }
 {
     let setting = state.setting();

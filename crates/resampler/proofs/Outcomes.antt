@@ -2,6 +2,7 @@
 use mathlib.Core.Path.{_≡_, sym, _∙_, ap}
 use mathlib.Core.List.{List}
 use Prim.Native.Nat.{ℕ}
+use borrow.Author.Tests.{eq-eqb, ne-eqb}
 use lib.Ieee.{Float}
 use lib.ListN.{length}
 use Rattle.history.specs.Zeroed.{zeroed}
@@ -14,7 +15,7 @@ use Rattle.state.specs.declared.ResamplerState.{ResamplerState}
 use Rattle.judge.specs.Verdicts.{rateVerdict, processVerdict, resetVerdict}
 use Rattle.judge.specs.declared.Refusal.{Refusal}
 use Rattle.judge.specs.declared.Verdict.{Verdict}
-use Rattle.judge.specs.declared.Verdict.the-variants.{Refuse, Same, Act}
+use Rattle.judge.specs.declared.Verdict.the-variants.{Refuse, Accept}
 use Rattle.update.specs.Updated.{updatedState, updatedHistory, updatedCoefficients}
 use Rattle.process.specs.Process.{Plays}
 use Rattle.process.specs.declared.Processed.{Processed}
@@ -38,20 +39,27 @@ module _ (row : QualityMapping) (s : ResamplerState) (source : ℕ) (mem coefs :
   unfolding rateTold rateHistory rateCoefficients
   rate-refused r e = record { tells = rw e; history = rw e; coefficients = rw e }
 
-  pub rate-same : (c : Consumed) (w : Written) → c .0 ≡ 0 → w .0 ≡ 0 → rateVerdict row s source (length mem) (length coefs) ≡ Same
-      → SetsRate row s source mem coefs (Accepted s c w) mem coefs
+  pub rate-same : (c : Consumed) (w : Written) → c .0 ≡ 0 → w .0 ≡ 0 → rateVerdict row s source (length mem) (length coefs) ≡ Accept
+      → s .source ≡ source → SetsRate row s source mem coefs (Accepted s c w) mem coefs
   unfolding rateTold rateHistory rateCoefficients
-  rate-same c w f g e = record { tells = rw e (none s c w f g); history = rw e; coefficients = rw e }
+  rate-same c w f g e same =
+      let t = eq-eqb (s .source) source same in
+      record { tells = rw (e, t) (none s c w f g); history = rw (e, t); coefficients = rw (e, t) }
 
-  pub rate-done : {t : ResamplerState} {m l : List Float} (c : Consumed) (w : Written) → c .0 ≡ 0 → w .0 ≡ 0
-      → rateVerdict row s source (length mem) (length coefs) ≡ Act
+  pub rate-changed : {t : ResamplerState} {m l : List Float} (c : Consumed) (w : Written) → c .0 ≡ 0 → w .0 ≡ 0
+      → rateVerdict row s source (length mem) (length coefs) ≡ Accept → (s .source ≡ source → ⊥)
       → t ≡ updatedState s source (settingOf row source (s .target))
       → m ≡ updatedHistory s (settingOf row source (s .target)) mem
       → l ≡ updatedCoefficients (settingOf row source (s .target)) coefs
       → SetsRate row s source mem coefs (Accepted t c w) m l
   unfolding rateTold rateHistory rateCoefficients
-  rate-done {t} c w f g e st hi co =
-      record { tells = rw e (none t c w f g ∙ ap (λ (x : ResamplerState). accepted x 0 0) st); history = rw e hi; coefficients = rw e co }
+  rate-changed {t} c w f g e other st hi co =
+      let o = ne-eqb (s .source) source other in
+      record {
+        tells = rw (e, o) (none t c w f g ∙ ap (λ (x : ResamplerState). accepted x 0 0) st);
+        history = rw (e, o) hi;
+        coefficients = rw (e, o) co;
+      }
 
 module _ (row : QualityMapping) (s : ResamplerState) (mem coefs input out : List Float) where
   pub process-refused : (r : Refusal) → processVerdict row s (length mem) (length coefs) (length input) (length out) ≡ Refuse r
@@ -59,13 +67,7 @@ module _ (row : QualityMapping) (s : ResamplerState) (mem coefs input out : List
   unfolding processTold processHistory processOutput
   process-refused r e = record { tells = rw e; history = rw e; output = rw e }
 
-  pub process-same : (c : Consumed) (w : Written) → c .0 ≡ 0 → w .0 ≡ 0
-      → processVerdict row s (length mem) (length coefs) (length input) (length out) ≡ Same
-      → Processes row s mem coefs input out (Accepted s c w) mem out
-  unfolding processTold processHistory processOutput
-  process-same c w f g e = record { tells = rw e (none s c w f g); history = rw e; output = rw e }
-
-  pub process-done : {p : Processed} {m o : List Float} → processVerdict row s (length mem) (length coefs) (length input) (length out) ≡ Act
+  pub process-done : {p : Processed} {m o : List Float} → processVerdict row s (length mem) (length coefs) (length input) (length out) ≡ Accept
       → Plays s mem coefs input out p m o → Processes row s mem coefs input out (Accepted (p .state) (p .consumed) (p .written)) m o
   unfolding processTold processHistory processOutput
   process-done e p = record { tells = rw (e, p .state, p .consumed, p .written); history = rw e (p .history); output = rw e (p .outputs) }
@@ -75,13 +77,8 @@ module _ (row : QualityMapping) (s : ResamplerState) (mem : List Float) where
   unfolding resetTold resetHistory
   reset-refused r e = record { tells = rw e; history = rw e }
 
-  pub reset-same : (c : Consumed) (w : Written) → c .0 ≡ 0 → w .0 ≡ 0 → resetVerdict row s (length mem) ≡ Same
-      → Resets row s mem (Accepted s c w) mem
-  unfolding resetTold resetHistory
-  reset-same c w f g e = record { tells = rw e (none s c w f g); history = rw e }
-
   pub reset-done : {t : ResamplerState} {m : List Float} (c : Consumed) (w : Written) → c .0 ≡ 0 → w .0 ≡ 0
-      → resetVerdict row s (length mem) ≡ Act → t ≡ movedTo s (s .started) 0 0 0 → m ≡ zeroed mem 0 (s .«mem_alloc_size»)
+      → resetVerdict row s (length mem) ≡ Accept → t ≡ movedTo s (s .started) 0 0 0 → m ≡ zeroed mem 0 (s .«mem_alloc_size»)
       → Resets row s mem (Accepted t c w) m
   unfolding resetTold resetHistory
   reset-done {t} c w f g e st hi =

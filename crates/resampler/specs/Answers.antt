@@ -4,7 +4,7 @@ use Rattle.state.specs.declared.ResamplerState.{ResamplerState}
 use Rattle.judge.specs.Refusals.{refusalNumber}
 use Rattle.judge.specs.declared.Refusal.{Refusal}
 use Rattle.judge.specs.declared.Verdict.{Verdict}
-use Rattle.judge.specs.declared.Verdict.the-variants.{Refuse, Same, Act}
+use Rattle.judge.specs.declared.Verdict.the-variants.{Refuse, Accept}
 use Rattle.resampler.specs.declared.Answer.{Answer}
 use Rattle.resampler.specs.declared.Answer.the-variants.{Refused, Accepted}
 
@@ -28,8 +28,7 @@ abbrev pub told : Answer → Told
 told (Refused r s) = refused r s
 told (Accepted s consumed written) = accepted s (consumed .0) (written .0)
 
--- what a verdict leads to: refused, left as it is, or done
-abbrev pub byVerdict : {A : Type 0} → Verdict → (Refusal → A) → A → A → A
-byVerdict (Refuse r) refusal same done = refusal r
-byVerdict Same refusal same done = same
-byVerdict Act refusal same done = done
+-- what a verdict leads to
+abbrev pub byVerdict : {A : Type 0} → Verdict → (Refusal → A) → A → A
+byVerdict (Refuse r) refusal done = refusal r
+byVerdict Accept refusal done = done

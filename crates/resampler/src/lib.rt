@@ -30,8 +30,7 @@ pub fn new(target: u32) -> Answer
     let verdict = judge::judge_new(target);
     match verdict {
         Verdict::Refuse(refusal) => Answer::Refused(refusal, ResamplerState::zero()),
-        Verdict::Same => Answer::Accepted(ResamplerState::fresh(target), Consumed(0), Written(0)),
-        Verdict::Act => Answer::Accepted(ResamplerState::fresh(target), Consumed(0), Written(0)),
+        Verdict::Accept => Answer::Accepted(ResamplerState::fresh(target), Consumed(0), Written(0)),
     }
 }
 
@@ -44,8 +43,10 @@ pub fn source_hz(state: ResamplerState, source: u32, mem: &mut [f32], coefs: &mu
     let verdict = judge::judge_rate(row, state, source, mem.len(), coefs.len());
     match verdict {
         Verdict::Refuse(refusal) => Answer::Refused(refusal, state),
-        Verdict::Same => Answer::Accepted(state, Consumed(0), Written(0)),
-        Verdict::Act => {
+        Verdict::Accept => {
+            if state.source == source {
+                return Answer::Accepted(state, Consumed(0), Written(0));
+            }
             let updated = update::update_filter(row, state, source, mem, coefs);
             Answer::Accepted(updated, Consumed(0), Written(0))
         }
@@ -67,8 +68,7 @@ pub fn process_float(
     let verdict = judge::judge_process(row, state, mem.len(), coefs.len(), input.len(), out.len());
     match verdict {
         Verdict::Refuse(refusal) => Answer::Refused(refusal, state),
-        Verdict::Same => Answer::Accepted(state, Consumed(0), Written(0)),
-        Verdict::Act => {
+        Verdict::Accept => {
             let done = process::process(row, state, mem, coefs, input, out);
             let after = done.state;
             let consumed = done.consumed;
@@ -87,8 +87,7 @@ pub fn reset_mem(state: ResamplerState, mem: &mut [f32]) -> Answer
     let verdict = judge::judge_reset(row, state, mem.len());
     match verdict {
         Verdict::Refuse(refusal) => Answer::Refused(refusal, state),
-        Verdict::Same => Answer::Accepted(state, Consumed(0), Written(0)),
-        Verdict::Act => {
+        Verdict::Accept => {
             history::fill_zero(mem, 0, state.mem_alloc_size as usize);
             let after = state.moved_to(state.started, 0, 0, 0);
             Answer::Accepted(after, Consumed(0), Written(0))
@@ -96,8 +95,8 @@ pub fn reset_mem(state: ResamplerState, mem: &mut [f32]) -> Answer
     }
 }
 
-// Moves the position to the middle of the filter, so that the first output is not the filter's own
-// delay. Refusal 7. Without a rate the position is 0.
+// Moves the position to the middle of the filter, so that a stream does not begin with the filter's
+// run-in. Refusal 7. Without a rate the position is 0.
 pub fn skip_zeros(state: ResamplerState) -> Answer
     ensures { λ r. ⌜ told r ≡ skipTold house state ⌝ }
 {
@@ -105,8 +104,7 @@ pub fn skip_zeros(state: ResamplerState) -> Answer
     let verdict = judge::judge_skip(row, state);
     match verdict {
         Verdict::Refuse(refusal) => Answer::Refused(refusal, state),
-        Verdict::Same => Answer::Accepted(state, Consumed(0), Written(0)),
-        Verdict::Act => {
+        Verdict::Accept => {
             let phase = state.samp_frac_num;
             let magic = state.magic_samples;
             let after = state.moved_to(state.started, state.filt_len / 2, phase, magic);

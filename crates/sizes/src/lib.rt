@@ -8,6 +8,9 @@ ghost use Rattle.sizes.specs.Sizes.{inLimits, historyNeeded, maxHistory}
 // The house row's base length is 160 too, and has nothing to do with it.
 pub const BUFFER_SIZE: u32 = 160;
 
+// The longest history that any two rates in limits need.
+pub const MAX_HISTORY: u32 = 7839;
+
 // Whether a rate is from 4,000 to 192,000 Hz, both ends included.
 pub fn in_limits(rate: u32) -> bool
     ensures { λ r. ⌜ r ≡ inLimits rate ⌝ }

@@ -8,7 +8,7 @@ use Rattle.rates.specs.declared.Kernel.the-variants.{Unset}
 use Rattle.rates.specs.declared.Setting.{Setting}
 use Rattle.state.specs.declared.ResamplerState.{ResamplerState}
 
--- the fresh state of a target rate: buffer_size 160, cutoff 1.0, ratio 0/1, no kernel, the rest 0
+-- the state of a target rate before any source rate: a ratio of 0 over 1, a cutoff of 1.0 and the one buffer size; nothing else is set
 unfoldable pub freshState : ℕ → ResamplerState
 freshState target =
     record {

@@ -6,6 +6,7 @@ use quality::QualityMapping;
 use rates::Kernel;
 use rates::Setting;
 use sizes::BUFFER_SIZE;
+use sizes::MAX_HISTORY;
 ghost use mathlib.Core.Path.{_≡_};
 ghost use Prim.Native.Nat.{_+_, _*_, _≤_};
 ghost use Rattle.sizes.specs.Sizes.{historyNeeded};
@@ -13,27 +14,33 @@ ghost use Rattle.quality.specs.Quality.{Sane};
 ghost use Rattle.state.specs.State.{freshState, zeroState, settingIn, movedTo};
 ghost use Rattle.state.specs.Belongs.{sameBits, kernelNumber, allHold, settingTests, placeTests, freshTests, ratedTests, belongsTogether};
 
-// The longest history that any two rates in limits need.
-const MAX_HISTORY: u32 = 7839;
-
 // Everything the resampler keeps between calls but the samples and the coefficients, which are
 // lent. `source` is 0 before a source rate was set.
 pub struct ResamplerState {
+    // rates in Hz
     pub target: u32,
     pub source: u32,
+    // source over target in lowest terms
     pub num: u32,
     pub den: u32,
+    // n
     pub filt_len: u32,
+    // alloc: how many entries of the lent history are used
     pub mem_alloc_size: u32,
     pub buffer_size: u32,
+    // num/den, whole and rest
     pub int_advance: u32,
     pub frac_advance: u32,
     pub cutoff: f32,
     pub oversample: u32,
+    // 1 once a round ran
     pub started: u32,
     pub kernel: Kernel,
+    // position
     pub last_sample: u32,
+    // phase
     pub samp_frac_num: u32,
+    // magic
     pub magic_samples: u32,
 }
 
@@ -228,7 +235,7 @@ fn kernel_number(kernel: Kernel) -> u32
 }
 
 // How long a history a filter needs with this many magic samples, each of which counts twice. In
-// 64 bits, where no two numbers of a state can wrap it; a length of 0 has no sample less to keep.
+// 64 bits, where no two numbers of a state can wrap it; at a length of 0 nothing is taken off.
 fn history_with(n: u32, magic: u32) -> u64
     ensures { λ r. ⌜ r ≡ historyNeeded (n + 2 * magic) ⌝ }
 {

@@ -1,4 +1,4 @@
--- A verdict that a rate is to be set gives all that a change of rate asks for. Assumes nothing.
+-- An accepted change to another rate gives all that it asks for. Assumes nothing.
 use mathlib.Core.Path.{_≡_, refl, ap}
 use mathlib.Core.Logic.{⊎-elim}
 use mathlib.Core.Bool.{Bool, true, false, cond}
@@ -20,8 +20,8 @@ use Rattle.state.specs.State.{freshState}
 use Rattle.state.specs.declared.ResamplerState.{ResamplerState}
 use Rattle.state.proofs.Belonging.{Fresh, Rated, belongs-is, rated-limits}
 use Rattle.judge.specs.Verdicts.{historyAfter, rateVerdict}
-use Rattle.judge.specs.declared.Verdict.the-variants.{Act}
-use Rattle.judge.proofs.Judged.{rate-act}
+use Rattle.judge.specs.declared.Verdict.the-variants.{Accept}
+use Rattle.judge.proofs.Judged.{rate-accepts}
 use Rattle.update.specs.Updated.{changeOf}
 
 -- what a state that belongs together brings to a change, with a rate or without
@@ -100,10 +100,10 @@ pub record Ready (row : QualityMapping) (s : ResamplerState) (source mem coefs :
   pub magic-to : historyNeeded (settingOf row source (s .target) .«filt_len» + 2 * reshapedMagic (changeOf s (settingOf row source (s .target))))
       ≤ historyAfter s (settingOf row source (s .target))
 
-pub ready : (row : QualityMapping) → Sane row → (s : ResamplerState) (source mem coefs : ℕ) → rateVerdict row s source mem coefs ≡ Act
-    → Ready row s source mem coefs
-ready row sane s source mem coefs e =
-    let v = rate-act row s source mem coefs e in
+pub ready : (row : QualityMapping) → Sane row → (s : ResamplerState) (source mem coefs : ℕ) → rateVerdict row s source mem coefs ≡ Accept
+    → (s .source ≡ source → ⊥) → Ready row s source mem coefs
+ready row sane s source mem coefs e other =
+    let v = rate-accepts row s source mem coefs e in
     let st : Standing s = ⊎-elim (fresh-stands s) (rated-stands row sane s) (belongs-is row s (v .belongs)) in
     let l = limits row sane source (s .target) (v .source-in) (st .target) in
     let some : 0 < settingOf row source (s .target) .«filt_len» = omega (arith, l .n-from, sane .base-from) in
@@ -114,12 +114,12 @@ ready row sane s source mem coefs e =
       setting = l;
       change = record {
         grows = omega arith;
-        lent = v .history;
+        lent = v .history other;
         holds = omega arith;
         some = some;
         before = λ z. let p = st .filled z in omega arith;
       };
-      table = setting-fits row sane source (s .target) (v .source-in) (st .target) coefs (v .coefficients);
+      table = setting-fits row sane source (s .target) (v .source-in) (st .target) coefs (v .coefficients other);
       alloc-to = omega (arith, st .alloc-to, l .history-to);
       magic-to = magic-fits (changeOf s setting) (omega arith) (omega arith) some (st .unstarted) (st .filled);
     }

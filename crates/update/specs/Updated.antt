@@ -12,7 +12,7 @@ use Rattle.reshape.specs.declared.Change.{Change}
 use Rattle.state.specs.declared.ResamplerState.{ResamplerState}
 use Rattle.judge.specs.Verdicts.{historyAfter}
 
--- the old phase v becomes floor(v*den/oldden), at most den-1
+-- the phase v is carried over to the new den, rounded down, and stays below it
 abbrev pub phaseAfter : ℕ → ℕ → ℕ → ℕ
 phaseAfter v den oldden = min (v * den / oldden) (den - 1)
 
@@ -20,7 +20,7 @@ phaseAfter v den oldden = min (v * den / oldden) (den - 1)
 abbrev pub positionAfter : ResamplerState → ℕ → ℕ
 positionAfter s n = n / 2
 
--- the change as the history sees it; alloc becomes the larger of itself and n+159
+-- the change as the history sees it; what is used of it may grow
 abbrev pub changeOf : ResamplerState → Setting → Change
 changeOf s setting =
     record {

@@ -1,8 +1,8 @@
-// A change of the source rate, once it is judged to be one: the state, the history and the table of
-// coefficients.
+// A change of the source rate to another, once it is accepted: the state, the history and the table
+// of coefficients.
 //
-// It refuses nothing and tests nothing: it asks for the verdict that a rate is to be set, from which
-// all that its parts ask for follows.
+// It refuses nothing and tests nothing: it asks that the change was accepted, from which all that its
+// parts ask for follows.
 use quality::QualityMapping;
 use rates::Setting;
 use ratio::_muldiv;
@@ -15,7 +15,7 @@ ghost use Rattle.quality.specs.Quality.{Sane};
 ghost use Rattle.rates.specs.Setting.{settingOf};
 ghost use Rattle.sizes.specs.Sizes.{historyNeeded, maxHistory};
 ghost use Rattle.judge.specs.Verdicts.{rateVerdict};
-ghost use Rattle.judge.specs.declared.Verdict.the-variants.{Act};
+ghost use Rattle.judge.specs.declared.Verdict.the-variants.{Accept};
 ghost use Rattle.update.specs.Updated.{phaseAfter, changeOf, withSetting, updatedState, updatedHistory, updatedCoefficients};
 
 // The old phase over the new denominator. The product is worked out in 64 bits, so the quotient is
@@ -88,7 +88,7 @@ pub fn update_filter(
     mem: &mut [f32],
     coefs: &mut [f32],
 ) -> ResamplerState
-    requires { ⌜ Sane row × (rateVerdict row state source (length (now mem)) (length (now coefs)) ≡ Act) ⌝ }
+    requires { ⌜ Sane row × (rateVerdict row state source (length (now mem)) (length (now coefs)) ≡ Accept) × (state .source ≡ source → ⊥) ⌝ }
     ensures { λ r. ⌜ r ≡ updatedState state source (settingOf row source (state .target)) ⌝ }
     ensures { λ r. ⌜ now (mem .exit) ≡ updatedHistory state (settingOf row source (state .target)) (now (mem .entry)) ⌝ }
     ensures { λ r. ⌜ now (coefs .exit) ≡ updatedCoefficients (settingOf row source (state .target)) (now (coefs .entry)) ⌝ }

@@ -5,26 +5,25 @@ use mathlib.Core.List.{List}
 use Prim.Native.Nat.{ℕ, _≤_, _<_, max}
 use native.Mathlib.Omega.{arith}
 use borrow.Author.Tests.{le-ltb, lt-ltb, ne-eqb}
-use lib.Dec.{ltb}
+use lib.Dec.{eqb, ltb}
 use lib.Ieee.{Float}
 use lib.ListN.{length}
 use Rattle.sizes.specs.Sizes.{InLimits, inLimits, historyNeeded}
 use Rattle.sizes.proofs.Tests.{test-passes}
 use Rattle.timeline.specs.Numbers.{call}
-use Rattle.timeline.proofs.Theorems.{numbers-of-a-call}
 use Rattle.quality.specs.House.{house}
 use Rattle.quality.proofs.House.{house-sane}
 use Rattle.rates.specs.Setting.{settingAt, settingOf}
-use Rattle.rounds.specs.Output.{weighOf}
-use Rattle.state.specs.State.{freshState, settingIn}
+use Rattle.state.specs.State.{freshState}
 use Rattle.state.specs.Belongs.{belongsTogether}
 use Rattle.state.proofs.Belonging.{fresh-state-belongs}
 use Rattle.judge.specs.Refusals.{maxCall}
 use Rattle.judge.specs.Verdicts.{refuseIf, newVerdict, rateVerdict, processVerdict}
 use Rattle.judge.specs.declared.Refusal.the-variants.{History, Coefficients}
-use Rattle.judge.specs.declared.Verdict.the-variants.{Act}
+use Rattle.judge.specs.declared.Verdict.the-variants.{Accept}
 use Rattle.update.specs.Updated.{withSetting}
 use Rattle.process.specs.Process.{rateIn, placeIn}
+use Rattle.process.proofs.Processes.{played-numbers}
 use Rattle.resampler.specs.Answers.{Told, accepted}
 use Rattle.resampler.specs.Entries.{newTold, rateTold, playedTold, processTold}
 use Rattle.pinned.proofs.StillBelongs.{rate-belongs}
@@ -36,13 +35,18 @@ unfolding newTold newVerdict
 new-accepted target h = rw (test-passes target h)
 
 -- ---- its first rate
+
+-- a rate in limits is another than the 0 of a state without one
+first-other : (source : ℕ) → InLimits source → eqb 0 source ≡ false
+first-other source h = ne-eqb 0 source (λ z. omega (arith, h .low))
+
 module _ (source target : ℕ) (hs : InLimits source) (ht : InLimits target) where
   -- only the lengths of the slices decide
   by-lengths : (mem coefs : ℕ) → rateVerdict house (freshState target) source mem coefs
       ≡ refuseIf (ltb mem (max 0 (historyNeeded (settingOf house source target .«filt_len»)))) History
-      (refuseIf (ltb coefs (settingOf house source target .coefs)) Coefficients Act)
+      (refuseIf (ltb coefs (settingOf house source target .coefs)) Coefficients Accept)
   unfolding rateVerdict freshState
-  by-lengths mem coefs = rw (fresh-state-belongs house target ht, test-passes source hs, ne-eqb 0 source (λ z. omega (arith, hs .low)))
+  by-lengths mem coefs = rw (fresh-state-belongs house target ht, test-passes source hs, first-other source hs)
 
   -- a history that is too short
   pub short-gets-2 : (mem coefs : List Float) → length mem < historyNeeded (settingOf house source target .«filt_len»)
@@ -60,7 +64,7 @@ firstCalled source target inn room =
 -- slices that are long enough
 module _ (source target : ℕ) (hs : InLimits source) (ht : InLimits target) (mem coefs : List Float)
     (m : historyNeeded (settingOf house source target .«filt_len») ≤ length mem) (k : settingOf house source target .coefs ≤ length coefs) where
-  first-verdict : rateVerdict house (freshState target) source (length mem) (length coefs) ≡ Act
+  first-verdict : rateVerdict house (freshState target) source (length mem) (length coefs) ≡ Accept
   first-verdict =
       let setting = settingOf house source target in
       rw (
@@ -71,7 +75,7 @@ module _ (source target : ℕ) (hs : InLimits source) (ht : InLimits target) (me
 
   pub first-rate : rateTold house (freshState target) source mem coefs ≡ accepted (firstState source target) 0 0
   unfolding rateTold freshState
-  first-rate = rw first-verdict
+  first-rate = rw (first-verdict, first-other source hs)
 
   -- ---- the first call after it, with the same slices
   first-belongs : belongsTogether house (firstState source target) ≡ true
@@ -79,7 +83,7 @@ module _ (source target : ℕ) (hs : InLimits source) (ht : InLimits target) (me
 
   module _ (input out : List Float) where
     call-verdict : 0 < length input → length input ≤ maxCall → length out ≤ maxCall
-        → processVerdict house (firstState source target) (length mem) (length coefs) (length input) (length out) ≡ Act
+        → processVerdict house (firstState source target) (length mem) (length coefs) (length input) (length out) ≡ Accept
     unfolding processVerdict withSetting freshState settingOf settingAt
     call-verdict some inn room =
         let setting = settingOf house source target in
@@ -99,7 +103,7 @@ module _ (source target : ℕ) (hs : InLimits source) (ht : InLimits target) (me
     first-call i o some inn room =
         let s = firstState source target in
         rw (call-verdict (omega arith) (omega arith) (omega arith), ← i, ← o)
-        (ap (playedTold s (length input) (length out)) (numbers-of-a-call (weighOf (settingIn s) coefs) (rateIn s) (s .«magic_samples») input (length out) (placeIn s) mem))
+        (ap (playedTold s (length input) (length out)) (played-numbers s mem coefs input (length out)))
 
 -- ---- a rate outside the limits
 pub outside-gets-1 : (rate : ℕ) → inLimits rate ≡ false → RateGets 1 rate

@@ -19,12 +19,6 @@ enum-told c = search needs
 fresh-requires : tie.Need-fresh-requires
 fresh-requires c κs = search needs
 
-enum-told-2 : tie.Need-enum-told-2
-enum-told-2 c = search needs
-
-fresh-requires-2 : tie.Need-fresh-requires-2
-fresh-requires-2 c κs = search needs
-
 returns : tie.Need-returns
 unfolding newTold
 returns c = rw (← c .before .before .before .before .judge-new .ensures, c .before .before .verdict .given .1, c .zero .ensures)
@@ -32,10 +26,6 @@ returns c = rw (← c .before .before .before .before .judge-new .ensures, c .be
 returns-2 : tie.Need-returns-2
 unfolding newTold
 returns-2 c = rw (← c .before .before .before .judge-new .ensures, c .before .enum-told .given .1, c .fresh .ensures)
-
-returns-3 : tie.Need-returns-3
-unfolding newTold
-returns-3 c = rw (← c .before .before .before .judge-new .ensures, c .before .enum-told2 .given .1, c .fresh2 .ensures)
 
 pub new-spec : {M : Type 1} → statement M
 new-spec =
@@ -46,8 +36,5 @@ new-spec =
     zero-requires
     enum-told
     fresh-requires
-    enum-told-2
-    fresh-requires-2
     returns
-    returns-2
-    returns-3)
+    returns-2)

@@ -1,5 +1,5 @@
 -- `resampler::process_float` meets its contract: each way out is a verdict's. Assumes nothing.
-use mathlib.Core.Path.{refl, sym, _∙_}
+use mathlib.Core.Path.{sym, _∙_}
 use lib.ListN.{length}
 use denote.Ref.{now}
 use borrow.Author.Needs.{needs}
@@ -7,7 +7,7 @@ use Rattle.quality.specs.House.{house}
 use Rattle.quality.specs.declared.QualityMapping.{QualityMapping}
 use Rattle.quality.proofs.House.{house-sane}
 use Rattle.judge.specs.Verdicts.{processVerdict}
-use Rattle.resampler.proofs.Outcomes.{verdict-is, process-refused, process-same, process-done}
+use Rattle.resampler.proofs.Outcomes.{verdict-is, process-refused, process-done}
 use Rattle.resampler.proofs.process_float.Statement.{statement}
 use Rattle.resampler.proofs.process_float.Tie as tie
 
@@ -23,12 +23,9 @@ enum-known-verdict c = search needs
 enum-told : tie.Need-enum-told
 enum-told c = search needs
 
-enum-told-2 : tie.Need-enum-told-2
-enum-told-2 c = search needs
-
 process-requires : tie.Need-process-requires
 process-requires c κs =
-    (rw (c .before .before .before .before .before .house .ensures) house-sane, sym (c .before .before .before .before .judge-process .ensures) ∙ c .before .before .enum-told2 .given .1)
+    (rw (c .before .before .before .before .before .house .ensures) house-sane, sym (c .before .before .before .before .judge-process .ensures) ∙ c .before .before .enum-told .given .1)
 
 returns : tie.Need-returns
 returns c =
@@ -36,23 +33,17 @@ returns c =
     process-refused house (a .state) (now (a .mem)) (now (a .coefs)) (now (a .input)) (now (a .out)) _
     (verdict-is (λ (row : QualityMapping). processVerdict row (a .state) (length (now (a .mem))) (length (now (a .coefs))) (length (now (a .input))) (length (now (a .out)))) (c .before .before .before .before .house .ensures) (c .before .before .before .judge-process .ensures) (c .before .verdict .given .1))
 
-returns-2 : tie.Need-returns-2
-returns-2 c =
-    let a = c .before .before .before .before .before .before .before .before .args in
-    process-same house (a .state) (now (a .mem)) (now (a .coefs)) (now (a .input)) (now (a .out)) _ _ refl refl
-    (verdict-is (λ (row : QualityMapping). processVerdict row (a .state) (length (now (a .mem))) (length (now (a .coefs))) (length (now (a .input))) (length (now (a .out)))) (c .before .before .before .house .ensures) (c .before .before .judge-process .ensures) (c .enum-told .given .1))
-
 same-length : tie.Need-same-length
 same-length c = search needs
 
 same-length-2 : tie.Need-same-length-2
 same-length-2 c = search needs
 
-returns-3 : tie.Need-returns-3
-returns-3 c =
+returns-2 : tie.Need-returns-2
+returns-2 c =
     let a = c .before .before .before .before .before .before .before .before .before .before .before .before .before .before .before .before .before .before .args in
     process-done house (a .state) (now (a .mem)) (now (a .coefs)) (now (a .input)) (now (a .out))
-    (verdict-is (λ (row : QualityMapping). processVerdict row (a .state) (length (now (a .mem))) (length (now (a .coefs))) (length (now (a .input))) (length (now (a .out)))) (c .before .before .before .before .before .before .before .before .before .before .before .before .before .house .ensures) (c .before .before .before .before .before .before .before .before .before .before .before .before .judge-process .ensures) (c .before .before .before .before .before .before .before .before .before .before .enum-told2 .given .1))
+    (verdict-is (λ (row : QualityMapping). processVerdict row (a .state) (length (now (a .mem))) (length (now (a .coefs))) (length (now (a .input))) (length (now (a .out)))) (c .before .before .before .before .before .before .before .before .before .before .before .before .before .house .ensures) (c .before .before .before .before .before .before .before .before .before .before .before .before .judge-process .ensures) (c .before .before .before .before .before .before .before .before .before .before .enum-told .given .1))
     (c .before .before .before .before .before .before .before .process .ensures)
 
 pub process-float-spec : {M : Type 1} → statement M
@@ -63,10 +54,8 @@ process-float-spec =
     judge-process-requires
     enum-known-verdict
     enum-told
-    enum-told-2
     process-requires
     returns
-    returns-2
     same-length
     same-length-2
-    returns-3)
+    returns-2)

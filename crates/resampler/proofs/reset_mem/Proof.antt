@@ -8,8 +8,8 @@ use Rattle.quality.specs.House.{house}
 use Rattle.quality.specs.declared.QualityMapping.{QualityMapping}
 use Rattle.quality.proofs.House.{house-sane}
 use Rattle.judge.specs.Verdicts.{resetVerdict}
-use Rattle.judge.proofs.Judged.{reset-act}
-use Rattle.resampler.proofs.Outcomes.{verdict-is, reset-refused, reset-same, reset-done}
+use Rattle.judge.proofs.Judged.{reset-accepts}
+use Rattle.resampler.proofs.Outcomes.{verdict-is, reset-refused, reset-done}
 use Rattle.resampler.proofs.reset_mem.Statement.{statement}
 use Rattle.resampler.proofs.reset_mem.Tie as tie
 
@@ -25,17 +25,14 @@ enum-known-verdict c = search needs
 enum-told : tie.Need-enum-told
 enum-told c = search needs
 
-enum-told-2 : tie.Need-enum-told-2
-enum-told-2 c = search needs
-
 cast-fill-zero : tie.Need-cast-fill-zero
 cast-fill-zero c = search needs
 
 fill-zero-requires : tie.Need-fill-zero-requires
 fill-zero-requires c κs =
     let a = c .before .before .before .before .before .before .before .args in
-    let act = sym (c .before .before .before .before .judge-reset .ensures) ∙ c .before .before .enum-told2 .given .1 in
-    omega (arith, reset-act _ (a .state) (length (now (a .mem))) act .history)
+    let accepted = sym (c .before .before .before .before .judge-reset .ensures) ∙ c .before .before .enum-told .given .1 in
+    omega (arith, reset-accepts _ (a .state) (length (now (a .mem))) accepted .history)
 
 moved-to-requires : tie.Need-moved-to-requires
 moved-to-requires c κs = search needs
@@ -46,20 +43,14 @@ returns c =
     reset-refused house (a .state) (now (a .mem)) _
     (verdict-is (λ (row : QualityMapping). resetVerdict row (a .state) (length (now (a .mem)))) (c .before .before .before .before .house .ensures) (c .before .before .before .judge-reset .ensures) (c .before .verdict .given .1))
 
-returns-2 : tie.Need-returns-2
-returns-2 c =
-    let a = c .before .before .before .before .before .args in
-    reset-same house (a .state) (now (a .mem)) _ _ refl refl
-    (verdict-is (λ (row : QualityMapping). resetVerdict row (a .state) (length (now (a .mem)))) (c .before .before .before .house .ensures) (c .before .before .judge-reset .ensures) (c .enum-told .given .1))
-
 same-length : tie.Need-same-length
 same-length c = search needs
 
-returns-3 : tie.Need-returns-3
-returns-3 c =
+returns-2 : tie.Need-returns-2
+returns-2 c =
     let a = c .before .before .before .before .before .before .before .before .before .before .before .args in
     reset-done house (a .state) (now (a .mem)) _ _ refl refl
-    (verdict-is (λ (row : QualityMapping). resetVerdict row (a .state) (length (now (a .mem)))) (c .before .before .before .before .before .before .before .before .before .house .ensures) (c .before .before .before .before .before .before .before .before .judge-reset .ensures) (c .before .before .before .before .before .before .enum-told2 .given .1))
+    (verdict-is (λ (row : QualityMapping). resetVerdict row (a .state) (length (now (a .mem)))) (c .before .before .before .before .before .before .before .before .before .house .ensures) (c .before .before .before .before .before .before .before .before .judge-reset .ensures) (c .before .before .before .before .before .before .enum-told .given .1))
     (c .moved-to .ensures) (c .before .before .before .fill-zero .ensures)
 
 pub reset-mem-spec : {M : Type 1} → statement M
@@ -70,11 +61,9 @@ reset-mem-spec =
     judge-reset-requires
     enum-known-verdict
     enum-told
-    enum-told-2
     cast-fill-zero
     fill-zero-requires
     moved-to-requires
     returns
-    returns-2
     same-length
-    returns-3)
+    returns-2)

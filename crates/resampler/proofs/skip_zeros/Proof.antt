@@ -1,6 +1,5 @@
 -- `resampler::skip_zeros` meets its contract: each way out is a verdict's. Assumes nothing.
 use borrow.Author.Needs.{needs}
-use Rattle.quality.specs.House.{house}
 use Rattle.quality.specs.declared.QualityMapping.{QualityMapping}
 use Rattle.quality.proofs.House.{house-sane}
 use Rattle.judge.specs.Verdicts.{skipVerdict}
@@ -21,9 +20,6 @@ enum-known-verdict c = search needs
 enum-told : tie.Need-enum-told
 enum-told c = search needs
 
-enum-told-2 : tie.Need-enum-told-2
-enum-told-2 c = search needs
-
 moved-to-requires : tie.Need-moved-to-requires
 moved-to-requires c κs = search needs
 
@@ -36,14 +32,8 @@ returns c =
 returns-2 : tie.Need-returns-2
 unfolding skipTold
 returns-2 c =
-    let a = c .before .before .before .before .args in
-    rw (verdict-is (λ (row : QualityMapping). skipVerdict row (a .state)) (c .before .before .before .house .ensures) (c .before .before .judge-skip .ensures) (c .enum-told .given .1))
-
-returns-3 : tie.Need-returns-3
-unfolding skipTold
-returns-3 c =
     let a = c .before .before .before .before .before .before .args in
-    rw (verdict-is (λ (row : QualityMapping). skipVerdict row (a .state)) (c .before .before .before .before .before .house .ensures) (c .before .before .before .before .judge-skip .ensures) (c .before .before .enum-told2 .given .1), c .moved-to .ensures)
+    rw (verdict-is (λ (row : QualityMapping). skipVerdict row (a .state)) (c .before .before .before .before .before .house .ensures) (c .before .before .before .before .judge-skip .ensures) (c .before .before .enum-told .given .1), c .moved-to .ensures)
 
 pub skip-zeros-spec : {M : Type 1} → statement M
 skip-zeros-spec =
@@ -53,8 +43,6 @@ skip-zeros-spec =
     judge-skip-requires
     enum-known-verdict
     enum-told
-    enum-told-2
     moved-to-requires
     returns
-    returns-2
-    returns-3)
+    returns-2)

@@ -12,7 +12,7 @@ use Rattle.update.proofs.update_filter.Tie as tie
 
 -- what the verdict says
 known : (c : tie.Start) → Ready (c .args .row) (c .args .state) (c .args .source) (length (now (c .args .mem))) (length (now (c .args .coefs)))
-known c = ready (c .args .row) (c .pre .0) (c .args .state) (c .args .source) (length (now (c .args .mem))) (length (now (c .args .coefs))) (c .pre .1)
+known c = ready (c .args .row) (c .pre .0) (c .args .state) (c .args .source) (length (now (c .args .mem))) (length (now (c .args .coefs))) (c .pre .1) (c .pre .2)
 
 new-requires : tie.Need-new-requires
 new-requires c κs = let k = known (c .before .before) in (c .before .before .pre .0, k .source-in, k .standing .target)
