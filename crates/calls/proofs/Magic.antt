@@ -19,8 +19,8 @@ use Rattle.rounds.specs.Rounds.{Wrote}
 use Rattle.calls.proofs.Onward.{then-wrote}
 
 -- a round over m magic samples, as a call tells it: none of them counts as consumed
-abbrev pub uncounted : ℕ → Turn → Called
-uncounted m t = record { turn = record { consumed = 0; written = t .written; place = t .place }; magic = m - t .consumed }
+abbrev pub magicTold : ℕ → Turn → Called
+magicTold m t = record { turn = record { consumed = 0; written = t .written; place = t .place }; magic = m - t .consumed }
 
 -- where the round over m magic samples led
 module _ (r : Rate) (room : ℕ) (p : Place) where
@@ -38,9 +38,9 @@ module _ (r : Rate) (room : ℕ) (p : Place) where
     position-kept slow h (suc m) = round-position r den (2 ^ 32) slow (suc m) room p phase (omega arith)
 
 -- rounds over the input write no more than the room
-pub rounds-fit : {A : Type 0} (weigh : ℕ → List A → A) (r : Rate) (s : List A) (room : ℕ) (p : Place) (mem : List A) {u : Turn} {left before after : List A}
+pub rounds-written-fit : {A : Type 0} (weigh : ℕ → List A → A) (r : Rate) (s : List A) (room : ℕ) (p : Place) (mem : List A) {u : Turn} {left before after : List A}
     → Wrote (playRounds weigh r s room p mem) u left before after → u .written ≤ room
-rounds-fit weigh r s room p mem w =
+rounds-written-fit weigh r s room p mem w =
     rw (w .numbers, rounds-numbers weigh r s room p mem)
     (subst (λ (c : Called). c .turn .written ≤ room) (call-plain r (length s) room p) (call-fits r 0 (length s) room p))
 
@@ -58,15 +58,15 @@ module _ {A : Type 0} (weigh : ℕ → List A → A) (r : Rate) (m room : ℕ) (
   -- with some: the round, and those left moved down
   pub some-wrote : {t : Turn} {mid left before after : List A} → 0 < m → Wrote (playRound weigh r m room p mem) t mid before after
       → left ≡ paste mid (r .n - 1) (drop (r .n - 1 + t .consumed) mid) (m - t .consumed)
-      → Wrote (playMagic weigh r m room p mem) (uncounted m t) left before after
+      → Wrote (playMagic weigh r m room p mem) (magicTold m t) left before after
   some-wrote {t} {mid} {left} {before} {after} = by m
     where
       by : (k : ℕ) → 0 < k → Wrote (playRound weigh r k room p mem) t mid before after
           → left ≡ paste mid (r .n - 1) (drop (r .n - 1 + t .consumed) mid) (k - t .consumed)
-          → Wrote (playMagic weigh r k room p mem) (uncounted k t) left before after
+          → Wrote (playMagic weigh r k room p mem) (magicTold k t) left before after
       by zero h w e = absurd (not-suc-le-zero h)
       by (suc k) h w e = record {
-        numbers = ap (uncounted (suc k)) (w .numbers);
+        numbers = ap (magicTold (suc k)) (w .numbers);
         mem =
             e
             ∙ ap₂ (λ (l : List A) (u : Turn). paste l (r .n - 1) (drop (r .n - 1 + u .consumed) l) (suc k - u .consumed)) (w .mem) (w .numbers);

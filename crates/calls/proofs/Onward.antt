@@ -4,16 +4,12 @@ use mathlib.Core.List.{List, _++_, append-assoc, append-nil}
 use Prim.Native.Nat.{ℕ, _+_, _-_, _≤_}
 use native.Mathlib.Nat.{zero-add, le-of-eq, le-refl}
 use lib.ListN.{length, take, drop, drop-of-length-le, length-drop, length-append}
-use lib.Seq.{paste, length-paste, take-all, take-length, take-at, drop-at, drop-drop}
+use lib.Seq.{paste, length-paste, take-length, take-at, drop-at, drop-drop}
 use Rattle.timeline.specs.Samples.{Played, playThen}
 use Rattle.rounds.specs.Rounds.{Wrote}
 
 module _ {A : Type 0} where
-  -- the rest of a slice from entry k on, as it is lent
-  pub the-rest : (k : ℕ) (l : List A) → take (length l - k) (drop k l) ≡ drop k l
-  the-rest k l = take-all (length l - k) (drop k l) (le-of-eq (length-drop k l))
-
-  -- and as it comes back
+  -- the rest of a slice from entry k on, as it comes back
   pub put-back : (k : ℕ) (l part : List A) → take k l ++ (part ++ drop (length l - k) (drop k l)) ≡ take k l ++ part
   put-back k l part =
       ap (λ (x : List A). take k l ++ (part ++ x)) (drop-of-length-le (drop k l) (le-of-eq (length-drop k l)))

@@ -8,7 +8,7 @@ use native.Mathlib.Nat.{sub-zero, sub-add-eq}
 use native.Mathlib.Omega.{arith}
 use lib.ListN.{length, take, drop, length-drop, length-append}
 use lib.Seq.{paste, paste-zero, drop-drop}
-use Rattle.timeline.specs.Numbers.{Rate, Place, Turn, Fit, chunk, round, still, andThen}
+use Rattle.timeline.specs.Numbers.{Rate, Place, Turn, Fit, chunk, still, andThen}
 use Rattle.timeline.specs.Samples.{Played, unplayed, playThen, playRound, playChunk, playRounds}
 use Rattle.timeline.proofs.Places.{made-fits, ahead-phase}
 use Rattle.timeline.proofs.Turns.{round-moves}

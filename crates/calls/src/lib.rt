@@ -46,8 +46,8 @@ fn process_chunk(
     process_native(setting, place, mem, coefs, count, out)
 }
 
-// Rounds over chunks of the input while input and room remain. Each gets the rest of the output from
-// where the last one ended.
+// Chunk after chunk, until all of the input is read or the output is full; without input or without
+// room there is no round. A round is lent only the part of the output that is not yet written.
 fn process_chunks(
     setting: Setting,
     alloc: usize,

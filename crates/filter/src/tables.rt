@@ -2,7 +2,7 @@
 // it was. Nothing is said of a slice that is too short, or of numbers that an f32 does not hold: no
 // caller has them.
 ghost use mathlib.Core.Path.{_≡_};
-ghost use Prim.Native.Nat.{_+_, _*_, _^_, _<_, _≤_};
+ghost use Prim.Native.Nat.{_+_, _*_, _^_, _≤_};
 ghost use lib.ListN.{length};
 ghost use lib.Seq.{paste};
 ghost use Rattle.filter.specs.Tables.{EntryFits, TableFits, directX, interpolatedX, directEntry, interpolatedEntry, directTable, interpolatedTable};

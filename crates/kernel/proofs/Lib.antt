@@ -1,4 +1,4 @@
--- What the functions' proofs share, and `Local`, which other crates cite. Assumes nothing.
+-- What the functions' proofs share. `Parts` and `Local` are for other crates too. Assumes nothing.
 mod Turns
-mod Parts
+pub mod Parts
 pub mod Local

@@ -18,22 +18,22 @@ unfolding sumTo
 sum-local zero f g h = refl
 sum-local (suc n) f g h = rw (sum-local n f g (λ j l. h j (omega arith)), h n (omega arith))
 
-four-local : (oversample offset n : ℕ) (cs xs ys : List Float) → ((j : ℕ) → j < n → at xs j ≡ at ys j)
-    → fourSums oversample offset n cs xs ≡ fourSums oversample offset n cs ys
+four-local : (oversample offset n : ℕ) (coefs window other : List Float) → ((j : ℕ) → j < n → at window j ≡ at other j)
+    → fourSums oversample offset n coefs window ≡ fourSums oversample offset n coefs other
 unfolding fourSums
-four-local oversample offset zero cs xs ys h = refl
-four-local oversample offset (suc n) cs xs ys h =
-    rw (four-local oversample offset n cs xs ys (λ j l. h j (omega arith)), h n (omega arith))
+four-local oversample offset zero coefs window other h = refl
+four-local oversample offset (suc n) coefs window other h =
+    rw (four-local oversample offset n coefs window other (λ j l. h j (omega arith)), h n (omega arith))
 
 -- two windows with the same first n samples give the same output
-pub step-local : (phase : Phase) (n oversample : ℕ) (cs xs ys : List Float) → ((j : ℕ) → j < n → at xs j ≡ at ys j)
-    → stepOf phase n oversample cs xs ≡ stepOf phase n oversample cs ys
+step-local : (phase : Phase) (n oversample : ℕ) (coefs window other : List Float) → ((j : ℕ) → j < n → at window j ≡ at other j)
+    → stepOf phase n oversample coefs window ≡ stepOf phase n oversample coefs other
 unfolding stepOf
-step-local (Direct row) n oversample cs xs ys h = sum-local n _ _ (λ j l. rw (h j l))
-step-local (Interpolated offset f) n oversample cs xs ys h =
-    ap (folded (cubicCoef f)) (four-local oversample offset n cs xs ys h)
+step-local (Direct row) n oversample coefs window other h = sum-local n _ _ (λ j l. rw (h j l))
+step-local (Interpolated offset f) n oversample coefs window other h =
+    ap (folded (cubicCoef f)) (four-local oversample offset n coefs window other h)
 
 -- so the window may as well be cut to n samples
-pub step-window : (phase : Phase) (n oversample : ℕ) (cs xs : List Float)
-    → stepOf phase n oversample cs (take n xs) ≡ stepOf phase n oversample cs xs
-step-window phase n oversample cs xs = step-local phase n oversample cs (take n xs) xs (λ j l. getD-take n xs j nan l)
+pub step-window : (phase : Phase) (n oversample : ℕ) (coefs window : List Float)
+    → stepOf phase n oversample coefs (take n window) ≡ stepOf phase n oversample coefs window
+step-window phase n oversample coefs window = step-local phase n oversample coefs (take n window) window (λ j l. getD-take n window j nan l)

@@ -16,11 +16,11 @@ unfolding sumTo
 sum-turn f j e = rw (add-one, e)
 
 -- one more sample of the four sums
-pub four-turn : (oversample offset j : ℕ) (cs xs : List Float) {s r : List Float} {i : ℕ} → i ≡ tap oversample offset j
-    → s ≡ fourSums oversample offset j cs xs → r ≡ spread s (at xs j) cs i → r ≡ fourSums oversample offset (j + 1) cs xs
+pub four-turn : (oversample offset j : ℕ) (coefs window : List Float) {s r : List Float} {i : ℕ} → i ≡ tap oversample offset j
+    → s ≡ fourSums oversample offset j coefs window → r ≡ spread s (at window j) coefs i → r ≡ fourSums oversample offset (j + 1) coefs window
 unfolding fourSums
-four-turn oversample offset j cs xs h e g =
-    rw (g, h, e) (ap (λ (k : ℕ). fourSums oversample offset k cs xs) (sym (add-one j)))
+four-turn oversample offset j coefs window h e g =
+    rw (g, h, e) (ap (λ (k : ℕ). fourSums oversample offset k coefs window) (sym (add-one j)))
 
 -- the next sample's first coefficient lies oversample on
 pub tap-turn : (oversample offset j : ℕ) {i : ℕ} → offset ≤ oversample → i ≡ tap oversample offset j

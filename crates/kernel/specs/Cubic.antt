@@ -1,4 +1,5 @@
--- Document 01, "One output, one call": `cubic_coef` in the Rust's order, its third entry through f64. Assumes nothing.
+-- Document 01, "One output, one call": the weights of the four sums. Each operation is rounded in the order in which the Rust writes it; only the
+-- third weight is worked out in f64. Assumes nothing.
 use mathlib.Core.List.{List, [], _∷_}
 use lib.Ieee.{Float, neg}
 use Rattle.math.specs.Operators.{_+ᶠ_, _-ᶠ_, _*ᶠ_, _-ᵈ_}

@@ -11,23 +11,24 @@ use Rattle.kernel.specs.Cubic.{cubicCoef}
 abbrev pub tap : ℕ → ℕ → ℕ → ℕ
 tap oversample offset j = 2 + (j + 1) * oversample - offset
 
--- a table of `size` coefficients holds those of n samples
+-- a table of `size` coefficients holds those of n samples. That oversample is at most `size` says something only at n = 0, where nothing else bounds
+-- it: the code adds 2 to it before the loop
 abbrev pub TapsWithin : ℕ → ℕ → ℕ → ℕ → Type 0
 TapsWithin n oversample offset size = (n * oversample + 8 ≤ size) × (oversample ≤ size) × (offset ≤ oversample)
 
 -- the four sums s with sample x times the four coefficients from i on added to them
 abbrev pub spread : List Float → Float → List Float → ℕ → List Float
-spread s x cs i =
-    (at s 0 +ᶠ x *ᶠ at cs i)
-    ∷ (at s 1 +ᶠ x *ᶠ at cs (i + 1))
-    ∷ (at s 2 +ᶠ x *ᶠ at cs (i + 2))
-    ∷ (at s 3 +ᶠ x *ᶠ at cs (i + 3))
+spread s x coefs i =
+    (at s 0 +ᶠ x *ᶠ at coefs i)
+    ∷ (at s 1 +ᶠ x *ᶠ at coefs (i + 1))
+    ∷ (at s 2 +ᶠ x *ᶠ at coefs (i + 2))
+    ∷ (at s 3 +ᶠ x *ᶠ at coefs (i + 3))
     ∷ []
 
 -- the four sums over the first n samples, from 0.0, j ascending
 unfoldable pub fourSums : ℕ → ℕ → ℕ → List Float → List Float → List Float
-fourSums oversample offset zero cs xs = nought ∷ nought ∷ nought ∷ nought ∷ []
-fourSums oversample offset (suc j) cs xs = spread (fourSums oversample offset j cs xs) (at xs j) cs (tap oversample offset j)
+fourSums oversample offset zero coefs window = nought ∷ nought ∷ nought ∷ nought ∷ []
+fourSums oversample offset (suc j) coefs window = spread (fourSums oversample offset j coefs window) (at window j) coefs (tap oversample offset j)
 
 -- weight times sum, four times, added from 0.0
 unfoldable pub folded : List Float → List Float → Float
@@ -35,4 +36,4 @@ folded w s = nought +ᶠ at w 0 *ᶠ at s 0 +ᶠ at w 1 *ᶠ at s 1 +ᶠ at w 2 
 
 -- the output at an offset with the remainder f
 abbrev pub interpolated : ℕ → ℕ → Float → ℕ → List Float → List Float → Float
-interpolated oversample offset f n cs xs = folded (cubicCoef f) (fourSums oversample offset n cs xs)
+interpolated oversample offset f n coefs window = folded (cubicCoef f) (fourSums oversample offset n coefs window)

@@ -8,10 +8,10 @@ use Rattle.kernel.specs.Interpolated.{TapsWithin, interpolated}
 use Rattle.kernel.specs.declared.Phase.{Phase}
 use Rattle.kernel.specs.declared.Phase.the-variants.{Direct, Interpolated}
 
--- the output of a phase from the coefficients cs and the window xs; a direct row starts at row * n of the coefficients
+-- the output of a phase from the coefficients and the window; a direct row starts at row * n of the coefficients
 unfoldable pub stepOf : Phase → ℕ → ℕ → List Float → List Float → Float
-stepOf (Direct row) n oversample cs xs = directSum n (drop (row * n) cs) xs
-stepOf (Interpolated offset f) n oversample cs xs = interpolated oversample offset f n cs xs
+stepOf (Direct row) n oversample coefs window = directSum n (drop (row * n) coefs) window
+stepOf (Interpolated offset f) n oversample coefs window = interpolated oversample offset f n coefs window
 
 -- a table of `size` coefficients holds all that the phase reads
 abbrev pub Reaches : Phase → ℕ → ℕ → ℕ → Type 0

@@ -6,7 +6,7 @@ use lib.Ieee.{Float, nan}
 use Rattle.math.specs.Operators.{_+ᶠ_, _*ᶠ_}
 use Rattle.math.specs.Numerals.{nought}
 
--- entry j of a list
+-- entry j of a list; past the end a NaN, and the contracts ask that nothing is read there
 abbrev pub at : List Float → ℕ → Float
 at xs j = getD xs j nan
 
@@ -17,4 +17,4 @@ sumTo (suc j) f = sumTo j f +ᶠ f j
 
 -- coefficient j times sample j, summed over the first n of each; a coefficient of 0 is not skipped
 abbrev pub directSum : ℕ → List Float → List Float → Float
-directSum n cs xs = sumTo n (λ j. at cs j *ᶠ at xs j)
+directSum n coefs window = sumTo n (λ j. at coefs j *ᶠ at window j)

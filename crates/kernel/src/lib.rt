@@ -12,14 +12,14 @@ ghost use Rattle.kernel.specs.Interpolated.{TapsWithin, spread, fourSums
 ghost use Rattle.kernel.specs.Step.{stepOf, Reaches};
 
 // One output of a direct row: coefficient times sample, summed from 0.0. With n = 0 it is 0.0.
-pub fn direct_step(in_slice: &[f32], sinc_table: &[f32], n: usize) -> f32
-    requires { ⌜ (n ≤ length (now «in_slice»)) × (n ≤ length (now «sinc_table»)) ⌝ }
-    ensures { λ r. ⌜ r ≡ directSum n (now («sinc_table» .entry)) (now («in_slice» .entry)) ⌝ }
+pub fn direct_step(window: &[f32], coefs: &[f32], n: usize) -> f32
+    requires { ⌜ (n ≤ length (now window)) × (n ≤ length (now coefs)) ⌝ }
+    ensures { λ r. ⌜ r ≡ directSum n (now (coefs .entry)) (now (window .entry)) ⌝ }
 {
     let mut sum: f32 = 0.0;
     let mut j = 0;
     while j < n {
-        sum = sum + sinc_table[j] * in_slice[j];
+        sum = sum + coefs[j] * window[j];
         j += 1;
     }
     sum
@@ -47,45 +47,38 @@ pub fn cubic_coef(frac: f32) -> [f32; 4]
 }
 
 // The four sums, each times its weight, added from 0.0.
-fn weigh(frac: f32, accum: [f32; 4]) -> f32
+fn fold_sums(frac: f32, accum: [f32; 4]) -> f32
     ensures { λ r. ⌜ r ≡ folded (cubicCoef frac) accum ⌝ }
 {
     let interp = cubic_coef(frac);
     0.0 + interp[0] * accum[0] + interp[1] * accum[1] + interp[2] * accum[2] + interp[3] * accum[3]
 }
 
-// One sample's four products, each added to its sum. The sums go in and out by value, as an array:
-// so they stay in one register of four.
-fn spread(accum: [f32; 4], curr_in: f32, sinc_table: &[f32], idx: usize) -> [f32; 4]
-    requires { ⌜ idx + 3 < length (now «sinc_table») ⌝ }
-    ensures { λ r. ⌜ r ≡ spread accum «curr_in» (now («sinc_table» .entry)) idx ⌝ }
+// One sample's four products, each added to its sum. The sums go in and out by value, as an array.
+fn spread(accum: [f32; 4], curr_in: f32, coefs: &[f32], idx: usize) -> [f32; 4]
+    requires { ⌜ idx + 3 < length (now coefs) ⌝ }
+    ensures { λ r. ⌜ r ≡ spread accum «curr_in» (now (coefs .entry)) idx ⌝ }
 {
     [
-        accum[0] + curr_in * sinc_table[idx],
-        accum[1] + curr_in * sinc_table[idx + 1],
-        accum[2] + curr_in * sinc_table[idx + 2],
-        accum[3] + curr_in * sinc_table[idx + 3],
+        accum[0] + curr_in * coefs[idx],
+        accum[1] + curr_in * coefs[idx + 1],
+        accum[2] + curr_in * coefs[idx + 2],
+        accum[3] + curr_in * coefs[idx + 3],
     ]
 }
 
 // The four sums over n samples. The Rust works out each sample's index anew, `2 + (j + 1) *
 // oversample - offset`; here it goes up by oversample.
-fn four_sums(
-    in_slice: &[f32],
-    sinc_table: &[f32],
-    n: usize,
-    oversample: usize,
-    offset: usize,
-) -> [f32; 4]
-    requires { ⌜ n ≤ length (now «in_slice») ⌝ }
-    requires { ⌜ TapsWithin n oversample offset (length (now «sinc_table»)) ⌝ }
-    ensures { λ r. ⌜ r ≡ fourSums oversample offset n (now («sinc_table» .entry)) (now («in_slice» .entry)) ⌝ }
+fn four_sums(window: &[f32], coefs: &[f32], n: usize, oversample: usize, offset: usize) -> [f32; 4]
+    requires { ⌜ n ≤ length (now window) ⌝ }
+    requires { ⌜ TapsWithin n oversample offset (length (now coefs)) ⌝ }
+    ensures { λ r. ⌜ r ≡ fourSums oversample offset n (now (coefs .entry)) (now (window .entry)) ⌝ }
 {
     let mut accum: [f32; 4] = [0.0; 4];
     let mut idx = 2 + oversample - offset;
     let mut j = 0;
     while j < n {
-        let next = spread(accum, in_slice[j], sinc_table, idx);
+        let next = spread(accum, window[j], coefs, idx);
         accum = next;
         idx += oversample;
         j += 1;
@@ -95,19 +88,19 @@ fn four_sums(
 
 // One output at an offset with a remainder.
 pub fn interpolate_step(
-    in_slice: &[f32],
-    sinc_table: &[f32],
+    window: &[f32],
+    coefs: &[f32],
     n: usize,
     oversample: usize,
     offset: usize,
     frac: f32,
 ) -> f32
-    requires { ⌜ n ≤ length (now «in_slice») ⌝ }
-    requires { ⌜ TapsWithin n oversample offset (length (now «sinc_table»)) ⌝ }
-    ensures { λ r. ⌜ r ≡ interpolated oversample offset frac n (now («sinc_table» .entry)) (now («in_slice» .entry)) ⌝ }
+    requires { ⌜ n ≤ length (now window) ⌝ }
+    requires { ⌜ TapsWithin n oversample offset (length (now coefs)) ⌝ }
+    ensures { λ r. ⌜ r ≡ interpolated oversample offset frac n (now (coefs .entry)) (now (window .entry)) ⌝ }
 {
-    let accum = four_sums(in_slice, sinc_table, n, oversample, offset);
-    weigh(frac, accum)
+    let accum = four_sums(window, coefs, n, oversample, offset);
+    fold_sums(frac, accum)
 }
 
 // The phase of an output: a row of the direct table, or an offset with a remainder.

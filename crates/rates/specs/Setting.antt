@@ -38,7 +38,7 @@ unfoldable pub oversampleOf : QualityMapping → ℕ → ℕ → ℕ
 unfolding halved
 oversampleOf row num den = cond (ltb den num) (max 1 (halved num den 4 (row .oversample))) (row .oversample)
 
--- the kernel: direct iff n*den <= n*oversample + 8 and floor(536870911/den) >= n
+-- the kernel: the direct one where its table is no longer than the other's, and n at most floor(536870911/den)
 unfoldable pub kernelOf : ℕ → ℕ → ℕ → Kernel
 kernelOf n oversample den =
     cond (leb (n * den) (n * oversample + 8) && leb n (536870911 / den)) Direct Interpolated
@@ -49,7 +49,7 @@ coefficientsOf Unset n oversample den = 0
 coefficientsOf Direct n oversample den = n * den
 coefficientsOf Interpolated n oversample den = n * oversample + 8
 
--- everything that num/den gives; int_advance and frac_advance are quotient and remainder
+-- the setting of a ratio. What an output adds to the position is kept in two parts: the whole samples, and the den-ths over
 unfoldable pub settingAt : QualityMapping → ℕ → ℕ → Setting
 settingAt row num den =
     let n = lengthOf row num den in
@@ -67,7 +67,7 @@ settingAt row num den =
       kernel = kernel;
     }
 
--- everything that two rates give: num/den is source over target in lowest terms
+-- the setting of two rates: that of their ratio, without a common factor
 unfoldable pub settingOf : QualityMapping → ℕ → ℕ → Setting
 unfolding settingAt
 settingOf row source target = let ratio = lowest source target in settingAt row (ratio .num) (ratio .den)

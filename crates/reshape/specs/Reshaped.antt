@@ -19,11 +19,12 @@ raised h by count = zeroed (paste h by h count) 0 by
 
 -- ---- n longer than old
 
--- the first copy: entries m..m+old-2 take entries 0..old-2, and entries 0..m-1 become 0.0
+-- the first of two copies: the old - 1 entries that the old filter kept go up by m, with 0.0 in the m entries below them
 abbrev pub firstCopy : List Float → ℕ → ℕ → List Float
 firstCopy h old m = raised h m (old - 1)
 
--- then, with e = old + 2m: if n > e, entries n-e..n-2 take entries 0..e-2 and those below become 0.0; else, with p = (e-n)/2, entries 0..n-2+p take entries p..n-2+2p
+-- both copies. The second goes by e = old + 2m: where n is above e, the first e - 1 entries go up until they end at entry n - 2, with 0.0 below them;
+-- where it is not, n - 1 + p entries go down by p = (e-n)/2
 unfoldable pub longer : List Float → ℕ → ℕ → ℕ → List Float
 longer h old n m =
     let f = firstCopy h old m in
@@ -31,7 +32,7 @@ longer h old n m =
     let p = (e - n) / 2 in
     cond (ltb e n) (raised f (n - e) (e - 1)) (paste f 0 (drop p f) (n - 1 + p))
 
--- magic becomes 0, or p
+-- how many magic samples that leaves: none where n is above e, p where it is not
 unfoldable pub longerMagic : ℕ → ℕ → ℕ → ℕ
 longerMagic old n m =
     let e = old + 2 * m in
@@ -39,13 +40,13 @@ longerMagic old n m =
 
 -- ---- n shorter than old
 
--- with s = (old-n)/2: entries 0..n-2+s+m take those s further on
+-- down by s = (old-n)/2 go the n - 1 entries that the new filter keeps and the s + m magic samples after them
 unfoldable pub shorter : List Float → ℕ → ℕ → ℕ → List Float
 shorter h old n m =
     let s = (old - n) / 2 in
     paste h 0 (drop s h) (n - 1 + s + m)
 
--- magic grows by s
+-- how many magic samples that leaves: to the m before come s that the new filter no longer keeps
 unfoldable pub shorterMagic : ℕ → ℕ → ℕ → ℕ
 shorterMagic old n m = m + (old - n) / 2
 
@@ -55,7 +56,8 @@ shorterMagic old n m = m + (old - n) / 2
 abbrev pub grown : List Float → Change → List Float
 grown h c = zeroed h (c .«old_alloc_size») (c .«mem_alloc_size» - c .«old_alloc_size»)
 
--- never started: all alloc entries 0.0; else by the two lengths, and with n equal to old nothing moves
+-- the history after a change. Where no round has run yet it is 0.0 up to alloc; otherwise the greater of the two lengths decides, and equal ones
+-- move nothing
 unfoldable pub reshapedHistory : List Float → Change → List Float
 reshapedHistory h c =
     let old = c .«old_length» in
@@ -65,6 +67,7 @@ reshapedHistory h c =
     (cond (ltb old n) (longer (grown h c) old n m)
     (cond (ltb n old) (shorter (grown h c) old n m) (grown h c)))
 
+-- the magic samples after a change: as many as before where no round has run yet, or where the lengths are equal
 unfoldable pub reshapedMagic : Change → ℕ
 reshapedMagic c =
     let old = c .«old_length» in

@@ -73,7 +73,7 @@ module _ {A : Type 0} (weigh : ℕ → List A → A) (r : Rate) (i : ℕ) (p : P
         let none : length before - k ≡ 0 = omega (arith, f .stored .same) in
         ends (rw none)
 
-    -- the position is at the samples' end
+    -- the position is at or past the samples' end
     pub ends-past : i ≤ q .position → Filled weigh r i p mem k q before after
     ends-past h = ends (made-none r i (length before - k) q h)
 

@@ -6,19 +6,20 @@ use Rattle.math.specs.Numerals.{asF32}
 use Rattle.math.specs.Operators.{_/ᶠ_}
 use Rattle.kernel.specs.Step.{stepOf}
 use Rattle.kernel.specs.declared.Phase.{Phase}
-use Rattle.kernel.specs.declared.Phase.the-variants as output
+use Rattle.kernel.specs.declared.Phase.the-variants as phases
 use Rattle.rates.specs.declared.Kernel.{Kernel}
 use Rattle.rates.specs.declared.Kernel.the-variants.{Unset, Direct, Interpolated}
 use Rattle.rates.specs.declared.Setting.{Setting}
 
--- direct: the row is the phase's number. Interpolated: the offset is floor(phase*oversample/den), with the remainder of that product over den
--- in f32. (Without a kernel no output is made.)
+-- the phase that a number stands for: the row of that number; for the interpolated kernel the quotient of phase*oversample by den as the offset,
+-- with what that division leaves, as an f32, over den as another. (Without a kernel no output is made.)
 unfoldable pub phaseBy : Kernel → ℕ → ℕ → ℕ → Phase
-phaseBy Unset oversample den phase = output.Direct phase
-phaseBy Direct oversample den phase = output.Direct phase
+phaseBy Unset oversample den phase = phases.Direct phase
+phaseBy Direct oversample den phase = phases.Direct phase
 phaseBy Interpolated oversample den phase =
-    output.Interpolated (phase * oversample / den) (asF32 (phase * oversample % den) /ᶠ asF32 den)
+    phases.Interpolated (phase * oversample / den) (asF32 (phase * oversample % den) /ᶠ asF32 den)
 
+-- the same, by the numbers of a setting
 abbrev pub phaseOf : Setting → ℕ → Phase
 phaseOf s phase = phaseBy (s .kernel) (s .oversample) (s .den) phase
 

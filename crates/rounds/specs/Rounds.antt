@@ -14,10 +14,11 @@ use Rattle.rates.specs.declared.Setting.{Setting}
 use Rattle.rounds.specs.declared.Place.{Place}
 use Rattle.rounds.specs.declared.Turn.{Turn}
 
--- the code's place and turn, as the numbers that `timeline` tells
+-- the code's place, as the numbers that `timeline` tells
 abbrev pub placeOf : Place → numbers.Place
 placeOf p = record { position = p .position; phase = p .phase }
 
+-- and the code's turn
 abbrev pub turnOf : Turn → numbers.Turn
 turnOf t = record { consumed = t .consumed .0; written = t .written .0; place = placeOf (t .place) }
 

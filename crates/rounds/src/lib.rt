@@ -86,8 +86,8 @@ struct Made {
     written: usize,
 }
 
-// Makes outputs until the position is at the samples' end or the room is full. The rest of the room
-// stays as it was.
+// Makes outputs while the room lasts and the position is before the samples' end; at or past it none
+// is made. The rest of the room stays as it was.
 fn make_outputs(
     setting: Setting,
     place: Place,

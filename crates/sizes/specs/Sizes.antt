@@ -25,7 +25,7 @@ pub record RatioInLimits (num den : ℕ) : Type 0 where
 abbrev pub bufferSize : ℕ
 bufferSize = 160
 
--- how long a history a filter of length n needs: n + 159
+-- how long a history a filter of length n needs: n + 159, but 160 at n = 0, where there is no filter
 abbrev pub historyNeeded : ℕ → ℕ
 historyNeeded n = n - 1 + bufferSize
 

@@ -33,10 +33,6 @@ module _ (r : Rate) (fit : Fit r) where
   pub recorded-moves : (len : ℕ) (os : List Offer) → Moved r 0 len (fresh r) (recorded r len os)
   recorded-moves len os = calls-move r os (start r) (still-moves r len (fresh r))
 
-  -- a recording has no magic samples
-  pub recorded-magic : (len : ℕ) (os : List Offer) → recorded r len os .magic ≡ 0
-  recorded-magic len os = omega (arith, recorded-moves len os .magic)
-
   pub recording-law : (len : ℕ) (os : List Offer) → Law r (recorded r len os .turn)
   recording-law len os =
       let c = recorded r len os in

@@ -4,12 +4,13 @@ use native.Mathlib.Omega.{arith}
 use lib.ListN.{length, take, drop, length-take}
 use denote.Ref.{now}
 use borrow.Author.Needs.{needs}
+use Rattle.kernel.proofs.Parts.{rest}
 use Rattle.rates.specs.Rated.{rateWith}
 use Rattle.rounds.specs.Output.{weighOf}
 use Rattle.rounds.specs.Rounds.{placeOf}
 use Rattle.calls.proofs.Asks.{fit, slow, round-fits, fits-at}
-use Rattle.calls.proofs.Onward.{the-rest, put-back}
-use Rattle.calls.proofs.Magic.{rounds-fit, written-fits, phase-after, position-after, left-wrote, spent-wrote}
+use Rattle.calls.proofs.Onward.{put-back}
+use Rattle.calls.proofs.Magic.{rounds-written-fit, written-fits, phase-after, position-after, left-wrote, spent-wrote}
 use Rattle.calls.proofs.process_call.Statement.{statement}
 use Rattle.calls.proofs.process_call.Tie as tie
 
@@ -82,7 +83,7 @@ add-written c =
     let a = start m .args in
     let out = m .process-magic .last .1 .1 .1 .1 .1 .0 in
     let done = m .process-magic .result .turn .written .0 in
-    let fits = rounds-fit (weighOf (a .setting) (now (a .coefs))) (rateWith (a .setting) (a .alloc)) (now (a .input)) (length (take (length out - done) (drop done out)))
+    let fits = rounds-written-fit (weighOf (a .setting) (now (a .coefs))) (rateWith (a .setting) (a .alloc)) (now (a .input)) (length (take (length out - done) (drop done out)))
     (placeOf (m .process-magic .result .turn .place)) (m .process-magic .last .1 .1 .1 .0) (k .process-chunks .ensures) in
     omega (arith, fits, length-take (length out - done) (drop done out), m .process-magic .kept .1 .1 .1 .1 .1 .0, within m, start m .good)
 
@@ -103,7 +104,7 @@ returns-2 c =
     (spent-wrote (weighOf (a .setting) (now (a .coefs))) (rateWith (a .setting) (a .alloc)) (a .magic)
     (length (now (a .out))) (placeOf (a .place)) (now (a .mem))
     (m .process-magic .ensures (a .alloc)) (now (a .input)) (omega (arith, k .before .before .before .before .if1 .left)) (m .process-magic .kept .1 .1 .1 .1 .1 .0)
-    (the-rest done out) (k .process-chunks .ensures))
+    (rest out done) (k .process-chunks .ensures))
 
 pub process-call-spec : {M : Type 1} → statement M
 process-call-spec =

@@ -7,11 +7,12 @@ use lib.ListN.{length}
 use denote.Ref.{now}
 use borrow.Author.Needs.{needs}
 use borrow.Author.Tests.{ltb-true, ltb-false}
+use Rattle.kernel.proofs.Parts.{rest}
 use Rattle.rates.specs.Rated.{rateWith}
 use Rattle.rounds.specs.Output.{weighOf}
 use Rattle.rounds.specs.Rounds.{placeOf, turnOf}
 use Rattle.calls.proofs.Asks.{fit, slow, fits-at}
-use Rattle.calls.proofs.Onward.{the-rest, put-back}
+use Rattle.calls.proofs.Onward.{put-back}
 use Rattle.calls.proofs.Playing.{Playing, Turned, begins, ends, goes-on}
 use Rattle.calls.proofs.process_chunks.Statement.{statement}
 use Rattle.calls.proofs.process_chunks.Tie as tie
@@ -43,7 +44,7 @@ turned c =
     goes-on (weighOf (a .setting) (now (a .coefs))) (rateWith (a .setting) (a .alloc)) (now (a .input)) (now (a .mem)) (now (a .out)) (placeOf (a .place))
     (fit f) (slow f) (f .lent) (v .inv) (omega (arith, c .before .before .before .before .before .loop-test .taken))
     (omega (arith, ltb-true (v .done) (length (v .out)) (c .before .before .before .before .if1 .taken), v .inv .long))
-    (the-rest (v .read) (now (a .input))) (the-rest (v .done) (v .out)) (c .process-chunk .ensures)
+    (rest (now (a .input)) (v .read)) (rest (v .out) (v .done)) (c .process-chunk .ensures)
 
 loop-holds : tie.Need-loop-holds Inv-loop μ-loop
 loop-holds c = let f = c .before .before .before .before .pre in begins _ _ _ _ _ _ (f .phase) (f .position)

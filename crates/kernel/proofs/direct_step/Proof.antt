@@ -10,10 +10,10 @@ use Rattle.kernel.proofs.direct_step.Statement.{statement}
 use Rattle.kernel.proofs.direct_step.Tie as tie
 
 abbrev Inv-loop : tie.InvT-loop
-Inv-loop in-slice sinc-table n sum₀ j₀ sum j = (j ≤ n) × (sum ≡ directSum j sinc-table in-slice)
+Inv-loop window coefs n sum₀ j₀ sum j = (j ≤ n) × (sum ≡ directSum j coefs window)
 
 abbrev μ-loop : tie.MeasureT-loop
-μ-loop in-slice sinc-table n sum₀ j₀ sum j = n - j
+μ-loop window coefs n sum₀ j₀ sum j = n - j
 
 loop-holds : tie.Need-loop-holds Inv-loop μ-loop
 unfolding sumTo ofBits

@@ -11,10 +11,10 @@ use Rattle.kernel.proofs.four_sums.Statement.{statement}
 use Rattle.kernel.proofs.four_sums.Tie as tie
 
 abbrev Inv-loop : tie.InvT-loop
-Inv-loop in-slice sinc-table n oversample offset accum₀ idx₀ j₀ accum idx j = (j ≤ n) × (idx ≡ tap oversample offset j) × (accum ≡ fourSums oversample offset j sinc-table in-slice)
+Inv-loop window coefs n oversample offset accum₀ idx₀ j₀ accum idx j = (j ≤ n) × (idx ≡ tap oversample offset j) × (accum ≡ fourSums oversample offset j coefs window)
 
 abbrev μ-loop : tie.MeasureT-loop
-μ-loop in-slice sinc-table n oversample offset accum₀ idx₀ j₀ accum idx j = n - j
+μ-loop window coefs n oversample offset accum₀ idx₀ j₀ accum idx j = n - j
 
 -- where the function starts
 abbrev start : tie.In-loop Inv-loop μ-loop → tie.Start Inv-loop μ-loop

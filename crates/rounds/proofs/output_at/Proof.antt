@@ -2,10 +2,8 @@
 use mathlib.Core.Path.{_≡_, sym, ap, _∙_}
 use mathlib.Core.List.{List}
 use Prim.Native.Nat.{ℕ, _-_}
-use native.Mathlib.Nat.{le-of-eq}
 use native.Mathlib.Omega.{arith}
 use lib.ListN.{length, take, drop, length-take, length-drop}
-use lib.Seq.{take-all}
 use lib.Ieee.{Float}
 use denote.Ref.{now}
 use borrow.Author.Needs.{needs}
@@ -15,6 +13,7 @@ use Rattle.rates.specs.Rated.{rateWith}
 use Rattle.rates.specs.declared.Setting.{Setting}
 use Rattle.kernel.specs.Step.{stepOf}
 use Rattle.kernel.specs.declared.Phase.{Phase}
+use Rattle.kernel.proofs.Parts.{rest}
 use Rattle.kernel.proofs.Local.{step-window}
 use Rattle.rounds.specs.Output.{phaseOf, weighOf}
 use Rattle.rounds.specs.Rounds.{placeOf}
@@ -58,7 +57,7 @@ output-is s p coefs mem {phase} e h =
     let n : ℕ = s .«filt_len» in
     let from : List Float = drop (p .position) mem in
     h
-    ∙ ap (stepOf phase n (s .oversample) coefs) (take-all (length mem - p .position) from (le-of-eq (length-drop (p .position) mem)))
+    ∙ ap (stepOf phase n (s .oversample) coefs) (rest mem (p .position))
     ∙ ap (λ (q : Phase). stepOf q n (s .oversample) coefs from) e
     ∙ sym (step-window (phaseOf s (p .phase)) n (s .oversample) coefs from)
 

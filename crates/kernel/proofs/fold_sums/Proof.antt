@@ -1,9 +1,9 @@
--- `kernel::weigh` meets its contract: the fold is the definition's, over the weights that `cubic_coef` ensures. Assumes nothing.
+-- `kernel::fold_sums` meets its contract: the fold is the definition's, over the weights that `cubic_coef` ensures. Assumes nothing.
 use lib.Ieee.{ofBits}
 use Rattle.kernel.specs.Interpolated.{folded}
 use borrow.Author.Needs.{needs}
-use Rattle.kernel.proofs.weigh.Statement.{statement}
-use Rattle.kernel.proofs.weigh.Tie as tie
+use Rattle.kernel.proofs.fold_sums.Statement.{statement}
+use Rattle.kernel.proofs.fold_sums.Tie as tie
 
 cubic-coef-requires : tie.Need-cubic-coef-requires
 cubic-coef-requires c κs = search needs
@@ -36,8 +36,8 @@ returns : tie.Need-returns
 unfolding folded ofBits
 returns c = rw (c .cubic-coef .ensures)
 
-pub weigh-spec : {M : Type 1} → statement M
-weigh-spec =
+pub fold-sums-spec : {M : Type 1} → statement M
+fold-sums-spec =
     tie.close
     (tie.spec
     cubic-coef-requires
