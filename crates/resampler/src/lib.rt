@@ -7,6 +7,7 @@
 pub use judge::Refusal;
 use judge::Verdict;
 use quality::QualityMapping;
+pub use rates::Kernel;
 pub use rounds::Consumed;
 pub use rounds::Written;
 pub use state::ResamplerState;
