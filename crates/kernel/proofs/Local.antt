@@ -1,17 +1,22 @@
--- An output goes by the first n samples of its window, and by nothing else of the history. Assumes nothing.
-use mathlib.Core.Path.{_≡_, refl, ap}
-use Prim.Native.Nat.{ℕ, zero, suc, _<_}
+-- An output goes by the first n samples of its window and by the coefficients that its phase reaches, and by nothing else; a NaN among those
+-- samples makes it a NaN. Assumes nothing.
+use mathlib.Core.Path.{_≡_, refl, sym, ap, _∙_}
+use mathlib.Core.Logic.{inl, inr}
+use Prim.Native.Nat.{ℕ, zero, suc, _+_, _≤_, _<_}
 use native.Mathlib.Omega.{arith}
-use mathlib.Core.List.{List}
-use lib.ListN.{take}
-use lib.Seq.{getD-take}
-use lib.Ieee.{Float, nan}
+use mathlib.Core.List.{List, [], _∷_}
+use lib.ListN.{take, drop}
+use lib.Seq.{getD-take, getD-drop}
+use lib.Ieee.{Float, nan, inf, fin, add, mul}
+use Rattle.math.specs.Operators.{_+ᶠ_, _*ᶠ_}
+use Rattle.math.proofs.Closest.{below-or-not}
 use Rattle.kernel.specs.Sums.{at, sumTo}
 use Rattle.kernel.specs.Cubic.{cubicCoef}
-use Rattle.kernel.specs.Interpolated.{fourSums, folded}
-use Rattle.kernel.specs.Step.{stepOf}
+use Rattle.kernel.specs.Interpolated.{tap, TapsWithin, spread, fourSums, folded}
+use Rattle.kernel.specs.Step.{stepOf, Reaches}
 use Rattle.kernel.specs.declared.Phase.{Phase}
 use Rattle.kernel.specs.declared.Phase.the-variants.{Direct, Interpolated}
+use Rattle.kernel.proofs.Turns.{entries-within}
 
 sum-local : (n : ℕ) (f g : ℕ → Float) → ((j : ℕ) → j < n → f j ≡ g j) → sumTo n f ≡ sumTo n g
 unfolding sumTo
@@ -37,3 +42,89 @@ step-local (Interpolated offset f) n oversample coefs window other h =
 pub step-window : (phase : Phase) (n oversample : ℕ) (coefs window : List Float)
     → stepOf phase n oversample coefs (take n window) ≡ stepOf phase n oversample coefs window
 step-window phase n oversample coefs window = step-local phase n oversample coefs (take n window) window (λ j l. getD-take n window j nan l)
+
+-- a row of n entries from a on lies within the table, so two tables alike have the same row
+row-table : (a n : ℕ) (coefs other : List Float) {size : ℕ} → a + n ≤ size → ((j : ℕ) → j < size → at coefs j ≡ at other j)
+    → (j : ℕ) → j < n → at (drop a coefs) j ≡ at (drop a other) j
+row-table a n coefs other within h j l =
+    getD-drop a coefs j nan ∙ h (a + j) (omega arith) ∙ sym (getD-drop a other j nan)
+
+-- one sample's four products go by the entries up to i + 3
+spread-table : (s coefs other : List Float) (x : Float) (i : ℕ) → ((j : ℕ) → j < i + 4 → at coefs j ≡ at other j)
+    → spread s x coefs i ≡ spread s x other i
+spread-table s coefs other x i h = rw (h i (omega arith), h (i + 1) (omega arith), h (i + 2) (omega arith), h (i + 3) (omega arith))
+
+-- the four sums over the first m of the n samples whose entries the table holds
+four-table : (oversample offset n m : ℕ) (coefs other window : List Float) {size : ℕ} → TapsWithin n oversample offset size → m ≤ n
+    → ((j : ℕ) → j < size → at coefs j ≡ at other j) → fourSums oversample offset m coefs window ≡ fourSums oversample offset m other window
+unfolding fourSums
+four-table oversample offset n zero coefs other window within l h = refl
+four-table oversample offset n (suc m) coefs other window within l h =
+    ap (λ s. spread s (at window m) coefs (tap oversample offset m)) (four-table oversample offset n m coefs other window within (omega arith) h)
+    ∙ spread-table (fourSums oversample offset m other window) coefs other (at window m) (tap oversample offset m)
+    (λ j b. h j (omega (arith, within, entries-within oversample {j = m} {n = n} l)))
+
+-- two tables with the same coefficients as far as the phase reaches give the same output
+pub step-table : (phase : Phase) (n oversample size : ℕ) (coefs other window : List Float) → Reaches phase n oversample size
+    → ((j : ℕ) → j < size → at coefs j ≡ at other j) → stepOf phase n oversample coefs window ≡ stepOf phase n oversample other window
+unfolding stepOf
+step-table (Direct row) n oversample size coefs other window within h =
+    sum-local n _ _ (λ j l. rw (row-table _ n coefs other within h j l))
+step-table (Interpolated offset f) n oversample size coefs other window within h =
+    ap (folded (cubicCoef f)) (four-table oversample offset n n coefs other window within (omega arith) h)
+
+-- whatever is before it, adding a NaN gives a NaN
+add-nan : (x : Float) → x +ᶠ nan ≡ nan
+unfolding add
+add-nan nan = refl
+add-nan (inf s) = refl
+add-nan (fin s m e) = refl
+
+-- and so does multiplying by a NaN
+mul-nan : (x : Float) → x *ᶠ nan ≡ nan
+unfolding mul
+mul-nan nan = refl
+mul-nan (inf s) = refl
+mul-nan (fin s m e) = refl
+
+-- one NaN among the summands makes the sum a NaN
+sum-nan : (n j : ℕ) (f : ℕ → Float) → j < n → f j ≡ nan → sumTo n f ≡ nan
+unfolding sumTo add
+sum-nan zero j f l e = absurd (omega arith)
+sum-nan (suc n) j f l e = elim (below-or-not j n) [
+  | inl b ↦ rw (sum-nan n j f b e)
+  | inr g ↦ let last : n ≡ j = omega arith in rw (last, e) (add-nan (sumTo j f))
+]
+
+-- four sums that are NaNs
+abbrev nans : List Float
+nans = nan ∷ nan ∷ nan ∷ nan ∷ []
+
+-- a sample that is a NaN makes them so, whatever they were
+spread-nan : (s coefs : List Float) (i : ℕ) → spread s nan coefs i ≡ nans
+unfolding mul
+spread-nan s coefs i = rw (add-nan (at s 0), add-nan (at s 1), add-nan (at s 2), add-nan (at s 3))
+
+-- and they stay so, whatever comes after
+nans-spread : (x : Float) (coefs : List Float) (i : ℕ) → spread nans x coefs i ≡ nans
+unfolding add
+nans-spread x coefs i = refl
+
+-- so one NaN among the samples is enough
+four-nan : (oversample offset n j : ℕ) (coefs window : List Float) → j < n → at window j ≡ nan → fourSums oversample offset n coefs window ≡ nans
+unfolding fourSums
+four-nan oversample offset zero j coefs window l e = absurd (omega arith)
+four-nan oversample offset (suc n) j coefs window l e = elim (below-or-not j n) [
+  | inl b ↦ rw (four-nan oversample offset n j coefs window b e) (nans-spread (at window n) coefs (tap oversample offset n))
+  | inr g ↦
+      let last : n ≡ j = omega arith in
+      rw (last, e) (spread-nan (fourSums oversample offset j coefs window) coefs (tap oversample offset j))
+]
+
+-- a NaN among the first n samples of the window makes the output a NaN
+pub step-nan : (phase : Phase) (n oversample j : ℕ) (coefs window : List Float) → j < n → at window j ≡ nan
+    → stepOf phase n oversample coefs window ≡ nan
+unfolding stepOf folded
+step-nan (Direct row) n oversample j coefs window l e = sum-nan n j _ l (rw e (mul-nan _))
+step-nan (Interpolated offset f) n oversample j coefs window l e =
+    rw (four-nan oversample offset n j coefs window l e, mul-nan (at (cubicCoef f) 3)) (add-nan _)
