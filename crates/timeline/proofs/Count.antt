@@ -73,19 +73,40 @@ module _ (r : Rate) (fit : Fit r) where
       let w : call r 0 inn room p .turn .written ≡ rounds r inn room p .written = ap (λ (c : Called). c .turn .written) e in
       ap (λ (c : Called). c .turn .consumed) e ∙ rounds-read inn inn room p (omega arith) (omega arith)
 
-  -- one call more that is offered all, with more room than the count: all is read
+  -- read or not, there are never more outputs than the count
+  pub never-more : (M : ℕ) {c : Called} → Moved r 0 (M + r .n / 2) (fresh r) c → c .turn .written ≤ upwards (M * r .den) (r .num)
+  never-more M {c} a =
+      let k = upwards (M * r .den) (r .num) in
+      elim (below-or-not k (c .turn .written)) [
+        | inl l ↦ absurd (omega (arith, upwards-enough (M * r .den) (r .num) (fit .num), below-end k a l))
+        | inr g ↦ g
+      ]
+
+  -- one call more that is offered a sample, with room for an output: a sample is read or an output is made
+  pub one-more-goes-on : (len : ℕ) (c : Called) (o : Offer) → c .magic ≡ 0 → c .turn .consumed < len → 0 < o .samples → 0 < o .room
+      → c .turn .consumed + c .turn .written < oneMore r len o c .turn .consumed + oneMore r len o c .turn .written
+  one-more-goes-on len c o z h s w =
+      let inn = min (o .samples) (len - c .turn .consumed) in
+      let d = call r (c .magic) inn (o .room) (c .turn .place) in
+      elim (below-or-not (d .turn .written) (o .room)) [
+        | inl l ↦
+            (let all : d .turn .consumed ≡ inn = rw z (plain-call-reads inn (o .room) (c .turn .place) (rw z at l)) in
+            omega arith)
+        | inr g ↦ omega arith
+      ]
+
+  -- one call more that is offered all that is left, with more room than the outputs that the count lacks: all is read
   pub one-more-reads : (M : ℕ) (c : Called) (o : Offer) → Moved r 0 (M + r .n / 2) (fresh r) c
-      → M + r .n / 2 ≤ o .samples → upwards (M * r .den) (r .num) < o .room
+      → M + r .n / 2 ≤ c .turn .consumed + o .samples → upwards (M * r .den) (r .num) < c .turn .written + o .room
       → oneMore r (M + r .n / 2) o c .turn .consumed ≡ M + r .n / 2
   one-more-reads M c o a s w =
       let len = M + r .n / 2 in
       let inn = min (o .samples) (len - c .turn .consumed) in
       let d = call r (c .magic) inn (o .room) (c .turn .place) in
       let z : c .magic ≡ 0 = omega (arith, a .magic) in
-      let k = upwards (M * r .den) (r .num) in
       elim (below-or-not (d .turn .written) (o .room)) [
         | inl l ↦
             (let all : d .turn .consumed ≡ inn = rw z (plain-call-reads inn (o .room) (c .turn .place) (rw z at l)) in
             omega (arith, a .consumed))
-        | inr g ↦ omega (arith, upwards-enough (M * r .den) (r .num) (fit .num), below-end k (one-more-moves r o c a) (omega arith))
+        | inr g ↦ absurd (omega (arith, never-more M (one-more-moves r o c a)))
       ]

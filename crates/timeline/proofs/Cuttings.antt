@@ -15,6 +15,12 @@ use Rattle.timeline.proofs.Places.{lifted, lifted-none}
 use Rattle.timeline.proofs.History.{call-keeps, kept-both}
 use Rattle.timeline.proofs.Lines.{Tells, tell-both, call-tells}
 
+-- the last of a list of calls
+pub play-calls-last : {A : Type 0} (weigh : ℕ → List A → A) (r : Rate) (xs : List A) (os : List Offer) (o : Offer) (h : Played Called A)
+    → playCalls weigh r xs (os ++ (o ∷ [])) h ≡ playOneMore weigh r xs o (playCalls weigh r xs os h)
+play-calls-last weigh r xs [] o h = refl
+play-calls-last weigh r xs (x ∷ os) o h = play-calls-last weigh r xs os o (playOneMore weigh r xs x h)
+
 module _ {A : Type 0} (weigh : ℕ → List A → A) (r : Rate) (fit : Fit r) where
   -- any calls of a recording of the samples xs, which follow the first n-1+m entries of the line
   pub record Plays (m : ℕ) (p : Place) (xs line before : List A) (h : Played Called A) : Type 0 where

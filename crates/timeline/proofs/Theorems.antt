@@ -4,6 +4,7 @@ use mathlib.Core.Path.{_≡_, sym, _∙_, ap}
 use mathlib.Core.List.{List, [], _∷_, _++_}
 use Prim.Native.Nat.{ℕ, _+_, _-_, _*_, _/_, _≤_, _<_}
 use native.Mathlib.Nat.{zero-add}
+use native.Mathlib.Omega.{arith}
 use lib.ListN.{length, take, getD}
 use Rattle.timeline.specs.Numbers.{Rate, Place, Called, Fit, call}
 use Rattle.timeline.specs.Samples.{outputs, playCall}
@@ -107,7 +108,7 @@ module _ {A : Type 0} (weigh : ℕ → List A → A) (silence : A) (r : Rate) (f
       (numbers-of-a-recording weigh silence r excess (closed silence r xs) (os ++ (o ∷ []))
       ∙ ap (λ (l : ℕ). recorded r l (os ++ (o ∷ []))) (length-closed silence r xs)
       ∙ calls-last r len os o (start r))
-      ∙ one-more-reads r fit (length xs) (recorded r len os) o (recorded-moves r fit len os) s k
+      ∙ one-more-reads r fit (length xs) (recorded r len os) o (recorded-moves r fit len os) (omega arith) (omega arith)
       ∙ sym (length-closed silence r xs)
 
   -- two cuttings of a closed recording that are read to the end give the same outputs
