@@ -1,7 +1,7 @@
 -- What each verdict says of the state and the lengths, for those who act on it. Assumes nothing.
-use mathlib.Core.Path.{_≡_, refl, sym, ap, _∙_}
-use mathlib.Core.Bool.{Bool, true, false, not, cond, _||_, true≢false}
-use Prim.Native.Nat.{ℕ, _≤_, _<_}
+use mathlib.Core.Path.{_≡_, refl}
+use mathlib.Core.Bool.{Bool, true, false, not, cond}
+use Prim.Native.Nat.{ℕ, _≤_}
 use native.Mathlib.Omega.{arith}
 use borrow.Author.Tests.{ne-eqb, eqb-false, ltb-false, not-false}
 use lib.Dec.{eqb, ltb}
@@ -13,7 +13,6 @@ use Rattle.state.specs.State.{zeroState, settingIn}
 use Rattle.state.specs.Belongs.{belongsTogether}
 use Rattle.state.specs.declared.ResamplerState.{ResamplerState}
 use Rattle.state.proofs.Belonging.{zero-refused}
-use Rattle.judge.specs.Refusals.{maxCall}
 use Rattle.judge.specs.Verdicts.{refuseIf, historyAfter, newVerdict, rateVerdict, processVerdict, resetVerdict, skipVerdict}
 use Rattle.judge.specs.declared.Refusal.{Refusal}
 use Rattle.judge.specs.declared.Refusal.the-variants.{Coefficients, State}

@@ -3,3 +3,4 @@ pub mod Verdicts
 pub mod OneResult
 pub mod StillBelongs
 pub mod Untouched
+pub mod First

@@ -71,7 +71,9 @@ rated-moved row s r m =
     }
 
 -- ---- set rate
-settings-agree : (row : QualityMapping) (s : ResamplerState) (source : ℕ)
+
+-- the state holds the setting of its two rates
+pub settings-agree : (row : QualityMapping) (s : ResamplerState) (source : ℕ)
     → settingIn (updatedState s source (settingOf row source (s .target))) ≡ settingOf row source (s .target)
 unfolding withSetting settingOf settingAt
 settings-agree row s source = refl
@@ -82,7 +84,8 @@ unfolding reshapedMagic
 magic-none c none z = rw (eq-eqb (c .started) 0 z) (none z)
 
 module _ (row : QualityMapping) (sane : Sane row) (s : ResamplerState) where
-  updated-rated : (source mem coefs : ℕ) → updates.Ready row s source mem coefs → Rated row (updatedState s source (settingOf row source (s .target)))
+  -- so it is one with a rate, whose numbers belong together
+  pub updated-rated : (source mem coefs : ℕ) → updates.Ready row s source mem coefs → Rated row (updatedState s source (settingOf row source (s .target)))
   unfolding withSetting
   updated-rated source mem coefs k =
       let st = k .standing in

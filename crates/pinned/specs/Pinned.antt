@@ -1,5 +1,5 @@
 -- Document 01, "Refusal numbers" and "What has to be pinned by the contracts": what is claimed of every call, beyond its contract.
--- `proofs/` proves it of each call, and that two results which a contract allows are equal.
+-- `proofs/` proves it of each call, and that two results which a contract allows are equal. Last, the state at which a recording starts.
 -- Assumes nothing.
 use mathlib.Core.Path.{_≡_}
 use mathlib.Core.Bool.{true}
@@ -9,10 +9,12 @@ use lib.Ieee.{Float}
 use lib.ListN.{length}
 use Rattle.timeline.specs.Laws.{KeptFrom}
 use Rattle.quality.specs.declared.QualityMapping.{QualityMapping}
-use Rattle.state.specs.State.{zeroState, settingIn}
+use Rattle.rates.specs.Setting.{settingOf}
+use Rattle.state.specs.State.{freshState, zeroState, settingIn}
 use Rattle.state.specs.Belongs.{belongsTogether}
 use Rattle.state.specs.declared.ResamplerState.{ResamplerState}
 use Rattle.judge.specs.declared.Refusal.the-variants.{Rate, State}
+use Rattle.update.specs.Updated.{updatedState}
 use Rattle.resampler.specs.Answers.{Told, refused}
 
 -- a call that is refused: counts of zero, and the state s as it was given
@@ -50,3 +52,7 @@ coefficientsUsed t = settingIn (t .state) .coefs
 -- an accepted call hands back a state whose numbers belong together
 abbrev pub Belonging : QualityMapping → Told → Type 0
 Belonging row t = t .number ≡ 0 → belongsTogether row (t .state) ≡ true
+
+-- the state that a new one for the target leads to, once its first rate, the source, is set
+abbrev pub firstState : QualityMapping → ℕ → ℕ → ResamplerState
+firstState row source target = updatedState (freshState target) source (settingOf row source target)

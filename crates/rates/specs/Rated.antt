@@ -1,6 +1,7 @@
--- Document 01, "One output, one call": a setting as the rate that positions and counts are told in, and its closed totals.
+-- Document 01, "One output, one call": a setting as the rate that positions and counts are told in, and the closed totals of a ratio.
 -- Assumes nothing.
 use Prim.Native.Nat.{ℕ, _*_}
+use Rattle.ratio.specs.declared.Ratio.{Ratio}
 use Rattle.timeline.specs.Numbers.{Rate}
 use Rattle.timeline.specs.Laws.{upwards}
 use Rattle.rates.specs.declared.Setting.{Setting}
@@ -9,6 +10,6 @@ use Rattle.rates.specs.declared.Setting.{Setting}
 abbrev pub rateWith : Setting → ℕ → Rate
 rateWith s alloc = record { num = s .num; den = s .den; n = s .«filt_len»; alloc = alloc }
 
--- how many outputs a closed recording of M samples has: M*den/num rounded up
-abbrev pub closedTotal : Setting → ℕ → ℕ
-closedTotal s M = upwards (M * s .den) (s .num)
+-- how many outputs a closed recording of M samples has, at a ratio of num over den: M*den/num rounded up
+abbrev pub closedTotal : Ratio → ℕ → ℕ
+closedTotal ratio M = upwards (M * ratio .den) (ratio .num)

@@ -1,3 +1,2 @@
--- The first rate and the first call of a new state, and the worked numbers. Assumes nothing.
-pub mod First
+-- The worked numbers. Assumes nothing.
 pub mod Worked

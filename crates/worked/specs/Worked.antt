@@ -9,24 +9,18 @@ use lib.Ieee.{Float}
 use lib.ListN.{length}
 use Rattle.sizes.specs.Sizes.{InLimits, historyNeeded}
 use Rattle.quality.specs.House.{house}
-use Rattle.rates.specs.Setting.{settingOf}
-use Rattle.rates.specs.Rated.{closedTotal}
 use Rattle.rates.specs.declared.Kernel.{Kernel}
 use Rattle.rates.specs.declared.Kernel.the-variants.{Direct, Interpolated}
 use Rattle.state.specs.State.{freshState, settingIn, movedTo}
-use Rattle.state.specs.declared.ResamplerState.{ResamplerState}
-use Rattle.update.specs.Updated.{updatedState}
 use Rattle.resampler.specs.Answers.{accepted}
 use Rattle.resampler.specs.Entries.{newTold, rateTold, processTold}
-
--- the state that a new one for the target leads to, once its first rate is set
-abbrev pub firstState : ℕ → ℕ → ResamplerState
-firstState source target = updatedState (freshState target) source (settingOf house source target)
+use Rattle.pinned.specs.Pinned.{firstState}
+use Rattle.recording.specs.Totals.{countedTotal, closedTotalTold}
 
 -- the table's columns for two rates: num, den, n, oversample, kernel, coefficients
 abbrev pub columns : ℕ → ℕ → ℕ × ℕ × ℕ × ℕ × Kernel × ℕ
 columns source target =
-    let s = firstState source target in
+    let s = firstState house source target in
     (s .num, s .den, s .«filt_len», s .oversample, s .kernel, settingIn s .coefs)
 
 -- a line of the table: the new state is accepted, so is its first rate where the slices are as long as n and the coefficients ask, and the state
@@ -34,7 +28,7 @@ columns source target =
 pub record Line (source target num den n oversample : ℕ) (kernel : Kernel) (count : ℕ) : Type 0 where
   pub new : newTold target ≡ accepted (freshState target) 0 0
   pub rate : (mem coefs : List Float) → historyNeeded n ≤ length mem → count ≤ length coefs
-      → rateTold house (freshState target) source mem coefs ≡ accepted (firstState source target) 0 0
+      → rateTold house (freshState target) source mem coefs ≡ accepted (firstState house source target) 0 0
   pub has : columns source target ≡ (num, den, n, oversample, kernel, count)
 
 -- case C from fresh, with slices that are long enough: a call of so many samples in and so much room is accepted, with these counts and this
@@ -42,8 +36,8 @@ pub record Line (source target num den n oversample : ℕ) (kernel : Kernel) (co
 abbrev pub CalledC : ℕ → ℕ → ℕ → ℕ → ℕ → Type 0
 CalledC inn room consumed written position =
     (mem coefs input out : List Float) → 639 ≤ length mem → 480 ≤ length coefs → length input ≡ inn → length out ≡ room
-    → processTold house (firstState 48000 16000) mem coefs input out
-    ≡ accepted (movedTo (firstState 48000 16000) 1 position 0 0) consumed written
+    → processTold house (firstState house 48000 16000) mem coefs input out
+    ≡ accepted (movedTo (firstState house 48000 16000) 1 position 0 0) consumed written
 
 -- the cases
 pub record Worked : Type 0 where
@@ -64,10 +58,10 @@ pub record Worked : Type 0 where
 
 -- the closed totals: C twice, A, and an hour of 1000/999
 pub record ClosedTotals : Type 0 where
-  pub C-3 : closedTotal (settingOf house 48000 16000) 3 ≡ 1
-  pub C-4 : closedTotal (settingOf house 48000 16000) 4 ≡ 2
-  pub A-1 : closedTotal (settingOf house 44100 48000) 1 ≡ 2
-  pub hour : closedTotal (settingOf house 48000 47952) 172800000 ≡ 172627200
+  pub C-3 : closedTotalTold 48000 16000 3 ≡ countedTotal 1
+  pub C-4 : closedTotalTold 48000 16000 4 ≡ countedTotal 2
+  pub A-1 : closedTotalTold 44100 48000 1 ≡ countedTotal 2
+  pub hour : closedTotalTold 48000 47952 172800000 ≡ countedTotal 172627200
 
 -- the number that a rate gets: as the target of a new state, and as the first rate of a state with any target in limits
 pub record RateGets (number rate : ℕ) : Type 0 where
@@ -83,4 +77,4 @@ pub record OutsideLimits : Type 0 where
 pub record HistoryOfD : Type 0 where
   pub short : (mem coefs : List Float) → length mem ≡ 7838 → rateTold house (freshState 4000) 192000 mem coefs .number ≡ 2
   pub enough : (mem coefs : List Float) → length mem ≡ 7839 → length coefs ≡ 7680
-      → rateTold house (freshState 4000) 192000 mem coefs ≡ accepted (firstState 192000 4000) 0 0
+      → rateTold house (freshState 4000) 192000 mem coefs ≡ accepted (firstState house 192000 4000) 0 0

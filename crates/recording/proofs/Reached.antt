@@ -1,0 +1,253 @@
+-- Every recording, after every one of its calls, is one of `timeline`'s: the same counts, outputs and history come from some list of offers. A call that
+-- is refused changes nothing and adds no offer. Assumes nothing.
+use mathlib.Core.Path.{_≡_, refl, sym, _∙_, ap}
+use mathlib.Core.Bool.{true}
+use mathlib.Core.List.{List, [], _∷_, _++_, append-nil}
+use Prim.Native.Nat.{ℕ, _+_, _/_}
+use native.Mathlib.Nat.{add-zero, zero-add}
+use native.Mathlib.Omega.{arith}
+use lib.Ieee.{Float}
+use lib.ListN.{length, take, drop, replicate, length-append}
+use lib.Seq.{take-all}
+use Rattle.math.specs.Numerals.{nought}
+use Rattle.sizes.specs.Sizes.{historyNeeded}
+use Rattle.timeline.specs.Numbers.{Rate, Called, fresh}
+use Rattle.timeline.specs.Samples.{Played, playThen, playCall}
+use Rattle.timeline.specs.Recording as timeline
+use Rattle.timeline.specs.Recording.{Offer, callThen, playOneMore}
+use Rattle.timeline.proofs.Cuttings.{play-calls-last}
+use Rattle.timeline.proofs.Parts.{take-front, take-replicate}
+use Rattle.quality.specs.Quality.{Sane}
+use Rattle.quality.specs.declared.QualityMapping.{QualityMapping}
+use Rattle.rates.specs.Rated.{rateWith}
+use Rattle.rates.specs.declared.Setting.{Setting}
+use Rattle.reshape.specs.Reshaped.{reshapedMagic}
+use Rattle.rounds.specs.Output.{weighOf}
+use Rattle.state.specs.State.{freshState, settingIn}
+use Rattle.state.specs.Belongs.{belongsTogether}
+use Rattle.state.specs.declared.ResamplerState.{ResamplerState}
+use Rattle.judge.specs.Verdicts.{processVerdict}
+use Rattle.judge.specs.declared.Refusal.{Refusal}
+use Rattle.judge.specs.declared.Verdict.{Verdict}
+use Rattle.judge.specs.declared.Verdict.the-variants.{Refuse, Accept}
+use Rattle.judge.proofs.Judged.{ProcessAccepted}
+use Rattle.update.specs.Updated.{withSetting, updatedCoefficients}
+use Rattle.process.specs.Process.{placeIn, played, playedOutput}
+use Rattle.process.proofs.Processes.{played-length}
+use Rattle.resampler.specs.Answers.{Told, told, refused, accepted, byVerdict}
+use Rattle.resampler.specs.Entries.{playedTold, processTold, processHistory, processOutput}
+use Rattle.resampler.specs.Contracts.{SetsRate}
+use Rattle.pinned.specs.Pinned.{firstState}
+use Rattle.pinned.proofs.First.{new-accepted, first-rate, first-history, first-coefficients, first-setting, first-alloc, first-fits}
+use Rattle.pinned.proofs.Verdicts.{cases}
+use Rattle.pinned.proofs.StillBelongs.{process-belongs}
+use Rattle.pinned.proofs.Untouched.{rate-keeps-excess, process-keeps-excess}
+use Rattle.recording.specs.Recording.{Call, Recording, Progress, settingFor, closed, opened, after, afterAll, finished, offered, Follows, AllFollow, MadeUnder}
+
+-- ---- a recording in `timeline`'s words
+module _ (row : QualityMapping) (r : Recording) where
+  -- what its rates fix
+  abbrev pub rateFor : Rate
+  rateFor = rateWith (settingFor row r) (historyNeeded (settingFor row r .«filt_len»))
+
+  -- one output, by the coefficients that set rate left
+  abbrev pub weighing : ℕ → List Float → Float
+  weighing = weighOf (settingFor row r) (r .coefs')
+
+  -- the recording that a list of offers makes
+  abbrev pub byOffers : List Offer → Played Called Float
+  byOffers os = timeline.recording weighing nought rateFor (drop (rateFor .alloc) (r .mem)) (closed row r) os
+
+-- what was done so far
+abbrev pub done : Progress → Played Called Float
+done h =
+    record {
+      numbers =
+          record {
+            turn = record { consumed = h .consumed; written = length (h .outputs); place = placeIn (h .state) };
+            magic = h .state .«magic_samples»;
+          };
+      out = h .outputs;
+      mem = h .mem;
+    }
+
+-- where a recording may stand
+pub record Reached (row : QualityMapping) (r : Recording) (h : Progress) : Type 0 where
+  pub offers : List Offer
+  pub same : byOffers row r offers ≡ done h
+  pub fits : ProcessAccepted row (h .state) (length (h .mem)) (length (h .coefs))
+  pub setting : settingIn (h .state) ≡ settingFor row r
+  pub alloc : h .state .«mem_alloc_size» ≡ rateFor row r .alloc
+  pub coefs : h .coefs ≡ r .coefs'
+
+-- ---- one call more
+module _ (h : Progress) where
+  -- what a call told and left, put after what was done
+  abbrev then : Told → List Float → List Float → Progress
+  then t mem out =
+      record { state = t .state; mem = mem; coefs = h .coefs; consumed = h .consumed + t .consumed; outputs = h .outputs ++ take (t .written) out }
+
+  -- a refused call leaves all as it was
+  then-refused : (f : Refusal) (out : List Float) → then (refused f (h .state)) (h .mem) out ≡ h
+  then-refused f out = rw (add-zero (h .consumed), append-nil (h .outputs))
+
+  -- an accepted one is one of `timeline`'s calls more
+  then-played : (inn : ℕ) (out : List Float) (p : Played Called Float) → length (p .out) ≡ p .numbers .turn .written
+      → done (then (playedTold (h .state) inn (length out) (p .numbers)) (p .mem) (playedOutput p out)) ≡ playThen callThen (done h) p
+  then-played inn out p e =
+      let k = p .numbers .turn .written in
+      let takes : take k (playedOutput p out) ≡ p .out = take-front out (p .out) k (omega arith) ∙ take-all k (p .out) (omega arith) in
+      rw (takes, length-append (h .outputs) (p .out), e)
+
+module _ (row : QualityMapping) (sane : Sane row) (r : Recording) (h : Progress) (g : Reached row r h) (c : Call) where
+  abbrev input : List Float
+  input = offered (closed row r) h c
+
+  abbrev room : ℕ
+  room = length (c .out)
+
+  -- as an offer
+  abbrev pub offer : Offer
+  offer = record { samples = c .samples; room = room }
+
+  -- its verdict
+  abbrev pub judged : Verdict
+  judged = processVerdict row (h .state) (length (h .mem)) (length (h .coefs)) (length input) room
+
+  -- the call that the state makes
+  abbrev ours : Played Called Float
+  ours = played (h .state) (h .coefs) input room (h .mem)
+
+  -- and `timeline`'s
+  abbrev pub theirs : Played Called Float
+  theirs = playCall (weighing row r) (rateFor row r) (h .state .«magic_samples») input room (placeIn (h .state)) (h .mem)
+
+  ours-is : ours ≡ theirs
+  ours-is =
+      let call : Setting → ℕ → List Float → Played Called Float =
+      λ s alloc coefs. playCall (weighOf s coefs) (rateWith s alloc) (h .state .«magic_samples») input room (placeIn (h .state)) (h .mem) in
+      ap (λ (s : Setting). call s (h .state .«mem_alloc_size») (h .coefs)) (g .setting)
+      ∙ ap (λ (alloc : ℕ). call (settingFor row r) alloc (h .coefs)) (g .alloc)
+      ∙ ap (call (settingFor row r) (rateFor row r .alloc)) (g .coefs)
+
+  -- what each verdict leads to
+  abbrev leads : Verdict → Progress
+  leads v =
+      then h (byVerdict v (λ f. refused f (h .state)) (playedTold (h .state) (length input) room (ours .numbers)))
+      (byVerdict v (λ f. h .mem) (ours .mem)) (byVerdict v (λ f. c .out) (playedOutput ours (c .out)))
+
+  by-verdict : Follows row (closed row r) h c → after h c ≡ leads judged
+  unfolding processTold processHistory processOutput
+  by-verdict p = rw (p .tells, p .history, p .output)
+
+  -- a refused call changes nothing
+  pub refused-stays : (f : Refusal) → judged ≡ Refuse f → Follows row (closed row r) h c → after h c ≡ h
+  refused-stays f v p = by-verdict p ∙ rw v (then-refused h f (c .out))
+
+  -- an accepted one is one of `timeline`'s more
+  leads-on : done (leads Accept) ≡ playThen callThen (done h) theirs
+  leads-on =
+      then-played h (length input) (c .out) ours (played-length (h .state) (h .mem) (h .coefs) input room)
+      ∙ ap (playThen callThen (done h)) ours-is
+
+  pub accepted-done : judged ≡ Accept → Follows row (closed row r) h c → done (after h c) ≡ playThen callThen (done h) theirs
+  accepted-done v p = ap done (by-verdict p) ∙ rw v leads-on
+
+  still-belongs : judged ≡ Accept → belongsTogether row (leads Accept .state) ≡ true
+  unfolding processTold
+  still-belongs v = (rw v at (process-belongs row sane (h .state) (h .mem) (h .coefs) input (c .out))) refl
+
+  still-long : judged ≡ Accept → length (leads Accept .mem) ≡ length (h .mem)
+  unfolding processHistory
+  still-long v = rw v at (process-keeps-excess row sane (h .state) (h .mem) (h .coefs) input (c .out) .long)
+
+  accepted-reaches : judged ≡ Accept → Reached row r (leads Accept)
+  accepted-reaches v =
+      record {
+        offers = g .offers ++ (offer ∷ []);
+        same =
+            play-calls-last (weighing row r) (rateFor row r) (closed row r) (g .offers) offer _
+            ∙ ap (playOneMore (weighing row r) (rateFor row r) (closed row r) offer) (g .same)
+            ∙ sym leads-on;
+        fits =
+            record {
+              belongs = still-belongs v;
+              has-rate = g .fits .has-rate;
+              history = omega (arith, still-long v, g .fits .history);
+              coefficients = g .fits .coefficients;
+            };
+        setting = g .setting;
+        alloc = g .alloc;
+        coefs = g .coefs;
+      }
+
+  -- either way the recording stands where one may stand
+  pub one-more-reached : Follows row (closed row r) h c → Reached row r (after h c)
+  one-more-reached p =
+      rw (by-verdict p) (cases (λ (v : Verdict). Reached row r (leads v)) judged (λ f. rw (then-refused h f (c .out)) g) accepted-reaches)
+
+-- ---- the first
+module _ (row : QualityMapping) (sane : Sane row) (r : Recording) (m : MadeUnder row r) where
+  made-is : told (r .new-answer) ≡ accepted (freshState (r .target)) 0 0
+  made-is = m .new ∙ new-accepted (r .target) (m .target-in)
+
+  rate : SetsRate row (freshState (r .target)) (r .source) (r .mem) (r .coefs) (r .rate-answer) (r .mem') (r .coefs')
+  rate = rw made-is at (m .rate)
+
+  rated-is : told (r .rate-answer) ≡ accepted (firstState row (r .source) (r .target)) 0 0
+  rated-is = rate .tells ∙ first-rate row (r .source) (r .target) (m .source-in) (m .target-in) (r .mem) (r .coefs) (m .history) (m .coefficients)
+
+  -- the history is silence, and past alloc what was there
+  mem-is : r .mem' ≡ replicate (rateFor row r .alloc) nought ++ drop (rateFor row r .alloc) (r .mem)
+  mem-is =
+      rate .history
+      ∙ first-history row (r .source) (r .target) (m .source-in) (m .target-in) (r .mem) (r .coefs) (m .history) (m .coefficients)
+      ∙ rw (take-replicate (rateFor row r .alloc) (rateFor row r .alloc) nought (omega arith), zero-add (rateFor row r .alloc))
+
+  -- the coefficients are the table, and past it what was there
+  pub coefs-is : r .coefs' ≡ updatedCoefficients (settingFor row r) (r .coefs)
+  coefs-is =
+      rate .coefficients
+      ∙ first-coefficients row (r .source) (r .target) (m .source-in) (m .target-in) (r .mem) (r .coefs) (m .history) (m .coefficients)
+
+  -- both keep their lengths
+  mem-long : length (r .mem') ≡ length (r .mem)
+  mem-long = ap length (rate .history) ∙ rate-keeps-excess row sane (freshState (r .target)) (r .source) (r .mem) (r .coefs) .0 .long
+
+  coefs-long : length (r .coefs') ≡ length (r .coefs)
+  coefs-long = ap length (rate .coefficients) ∙ rate-keeps-excess row sane (freshState (r .target)) (r .source) (r .mem) (r .coefs) .1 .long
+
+  -- it begins where `timeline`'s does: at n/2, at phase 0, without magic samples
+  abbrev first : ResamplerState
+  first = firstState row (r .source) (r .target)
+
+  first-place : placeIn first ≡ fresh (rateFor row r)
+  unfolding withSetting freshState
+  first-place = ap (λ (phase : ℕ). record { position = settingFor row r .«filt_len» / 2; phase = phase }) (omega arith)
+
+  first-magic : first .«magic_samples» ≡ 0
+  unfolding withSetting freshState reshapedMagic
+  first-magic = refl
+
+  pub first-reached : Reached row r (opened r)
+  first-reached =
+      rw rated-is
+      (record {
+        offers = [];
+        same = rw (mem-is, first-place, first-magic);
+        fits =
+            first-fits row (r .source) (r .target) (m .source-in) (m .target-in) sane (length (r .mem')) (length (r .coefs'))
+            (omega (arith, mem-long, m .history)) (omega (arith, coefs-long, m .coefficients));
+        setting = first-setting row (r .source) (r .target);
+        alloc = first-alloc row (r .source) (r .target);
+        coefs = refl;
+      })
+
+-- ---- all of them
+all-reached : (row : QualityMapping) → Sane row → (r : Recording) (h : Progress) (cs : List Call) → Reached row r h
+    → AllFollow row (closed row r) h cs → Reached row r (afterAll h cs)
+all-reached row sane r h [] g e = g
+all-reached row sane r h (c ∷ cs) g e = all-reached row sane r (after h c) cs (one-more-reached row sane r h g c (e .0)) (e .1)
+
+pub reached : (row : QualityMapping) → Sane row → (r : Recording) → MadeUnder row r → Reached row r (finished r)
+reached row sane r m = all-reached row sane r (opened r) (r .calls) (first-reached row sane r m) (m .calls)
