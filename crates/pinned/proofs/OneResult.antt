@@ -16,7 +16,7 @@ use Rattle.resampler.specs.declared.Answer.the-variants.{Refused, Accepted}
 -- ---- the answer, from what it tells
 
 -- the refusal whose number is one more
-abbrev refusalAfter : ℕ → Refusal
+abbrev pub refusalAfter : ℕ → Refusal
 refusalAfter zero = Rate
 refusalAfter (suc zero) = History
 refusalAfter (suc (suc zero)) = Coefficients

@@ -1,7 +1,8 @@
--- What holds of recordings. Assumes nothing.
+-- What holds of recordings; `Theorems` has what a reader is meant to see. Assumes nothing.
 pub mod Reached
 pub mod Counts
 pub mod Outputs
 pub mod Reading
 pub mod Cuttings
+pub mod Totals
 pub mod Theorems

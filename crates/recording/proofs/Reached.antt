@@ -71,7 +71,8 @@ done h =
       mem = h .mem;
     }
 
--- where a recording may stand
+-- where a recording may stand: some offers lead there, the state and the slices are such that only the input and the room of a call can get it
+-- refused, and what set rate fixed still holds
 pub record Reached (row : QualityMapping) (r : Recording) (h : Progress) : Type 0 where
   pub offers : List Offer
   pub same : byOffers row r offers ≡ done h
@@ -122,6 +123,7 @@ module _ (row : QualityMapping) (sane : Sane row) (r : Recording) (h : Progress)
   abbrev pub theirs : Played Called Float
   theirs = playCall (weighing row r) (rateFor row r) (h .state .«magic_samples») input room (placeIn (h .state)) (h .mem)
 
+  -- they are the same: the setting, alloc and the coefficients did not change
   ours-is : ours ≡ theirs
   ours-is =
       let call : Setting → ℕ → List Float → Played Called Float =
@@ -153,6 +155,7 @@ module _ (row : QualityMapping) (sane : Sane row) (r : Recording) (h : Progress)
   pub accepted-done : judged ≡ Accept → Follows row (closed row r) h c → done (after h c) ≡ playThen callThen (done h) theirs
   accepted-done v p = ap done (by-verdict p) ∙ rw v leads-on
 
+  -- the state it hands back belongs together, and the history keeps its length
   still-belongs : judged ≡ Accept → belongsTogether row (leads Accept .state) ≡ true
   unfolding processTold
   still-belongs v = (rw v at (process-belongs row sane (h .state) (h .mem) (h .coefs) input (c .out))) refl
@@ -188,6 +191,7 @@ module _ (row : QualityMapping) (sane : Sane row) (r : Recording) (h : Progress)
 
 -- ---- the first
 module _ (row : QualityMapping) (sane : Sane row) (r : Recording) (m : MadeUnder row r) where
+  -- a new state for a target in limits is accepted, and so is its first rate
   made-is : told (r .new-answer) ≡ accepted (freshState (r .target)) 0 0
   made-is = m .new ∙ new-accepted (r .target) (m .target-in)
 
