@@ -2,14 +2,15 @@
 -- samples makes it a NaN. Assumes nothing.
 use mathlib.Core.Path.{_≡_, refl, sym, ap, _∙_}
 use mathlib.Core.Logic.{inl, inr}
-use Prim.Native.Nat.{ℕ, zero, suc, _+_, _≤_, _<_}
+use Prim.Native.Nat.{ℕ, zero, suc, _+_, _*_, _≤_, _<_}
 use native.Mathlib.Omega.{arith}
 use mathlib.Core.List.{List, [], _∷_}
 use lib.ListN.{take, drop}
 use lib.Seq.{getD-take, getD-drop}
-use lib.Ieee.{Float, nan, inf, fin, add, mul}
-use Rattle.math.specs.Operators.{_+ᶠ_, _*ᶠ_}
+use lib.Ieee.{Float, nan, binary32, add, mul}
+use Rattle.math.specs.Operators.{_*ᶠ_}
 use Rattle.math.proofs.Closest.{below-or-not}
+use Rattle.math.proofs.Nan.{add-nan, mul-nan}
 use Rattle.kernel.specs.Sums.{at, sumTo}
 use Rattle.kernel.specs.Cubic.{cubicCoef}
 use Rattle.kernel.specs.Interpolated.{tap, TapsWithin, spread, fourSums, folded}
@@ -69,23 +70,9 @@ pub step-table : (phase : Phase) (n oversample size : ℕ) (coefs other window :
     → ((j : ℕ) → j < size → at coefs j ≡ at other j) → stepOf phase n oversample coefs window ≡ stepOf phase n oversample other window
 unfolding stepOf
 step-table (Direct row) n oversample size coefs other window within h =
-    sum-local n _ _ (λ j l. rw (row-table _ n coefs other within h j l))
+    sum-local n _ _ (λ j l. ap (λ (x : Float). x *ᶠ at window j) (row-table (row * n) n coefs other within h j l))
 step-table (Interpolated offset f) n oversample size coefs other window within h =
     ap (folded (cubicCoef f)) (four-table oversample offset n n coefs other window within (omega arith) h)
-
--- whatever is before it, adding a NaN gives a NaN
-add-nan : (x : Float) → x +ᶠ nan ≡ nan
-unfolding add
-add-nan nan = refl
-add-nan (inf s) = refl
-add-nan (fin s m e) = refl
-
--- and so does multiplying by a NaN
-mul-nan : (x : Float) → x *ᶠ nan ≡ nan
-unfolding mul
-mul-nan nan = refl
-mul-nan (inf s) = refl
-mul-nan (fin s m e) = refl
 
 -- one NaN among the summands makes the sum a NaN
 sum-nan : (n j : ℕ) (f : ℕ → Float) → j < n → f j ≡ nan → sumTo n f ≡ nan
@@ -93,7 +80,7 @@ unfolding sumTo add
 sum-nan zero j f l e = absurd (omega arith)
 sum-nan (suc n) j f l e = elim (below-or-not j n) [
   | inl b ↦ rw (sum-nan n j f b e)
-  | inr g ↦ let last : n ≡ j = omega arith in rw (last, e) (add-nan (sumTo j f))
+  | inr g ↦ let last : n ≡ j = omega arith in rw (last, e) (add-nan binary32 (sumTo j f))
 ]
 
 -- four sums that are NaNs
@@ -103,7 +90,7 @@ nans = nan ∷ nan ∷ nan ∷ nan ∷ []
 -- a sample that is a NaN makes them so, whatever they were
 spread-nan : (s coefs : List Float) (i : ℕ) → spread s nan coefs i ≡ nans
 unfolding mul
-spread-nan s coefs i = rw (add-nan (at s 0), add-nan (at s 1), add-nan (at s 2), add-nan (at s 3))
+spread-nan s coefs i = rw (add-nan binary32 (at s 0), add-nan binary32 (at s 1), add-nan binary32 (at s 2), add-nan binary32 (at s 3))
 
 -- and they stay so, whatever comes after
 nans-spread : (x : Float) (coefs : List Float) (i : ℕ) → spread nans x coefs i ≡ nans
@@ -125,6 +112,6 @@ four-nan oversample offset (suc n) j coefs window l e = elim (below-or-not j n) 
 pub step-nan : (phase : Phase) (n oversample j : ℕ) (coefs window : List Float) → j < n → at window j ≡ nan
     → stepOf phase n oversample coefs window ≡ nan
 unfolding stepOf folded
-step-nan (Direct row) n oversample j coefs window l e = sum-nan n j _ l (rw e (mul-nan _))
+step-nan (Direct row) n oversample j coefs window l e = sum-nan n j _ l (rw e (mul-nan binary32 _))
 step-nan (Interpolated offset f) n oversample j coefs window l e =
-    rw (four-nan oversample offset n j coefs window l e, mul-nan (at (cubicCoef f) 3)) (add-nan _)
+    rw (four-nan oversample offset n j coefs window l e, mul-nan binary32 (at (cubicCoef f) 3)) (add-nan binary32 _)

@@ -4,5 +4,6 @@ pub mod Closest
 pub mod Near
 pub mod Rounded
 pub mod Real
+pub mod Nan
 pub mod Sign
 pub mod Bounded

@@ -44,7 +44,7 @@ new-accepted target h = rw (test-passes target h)
 -- ---- its first rate
 
 -- a rate in limits is another than the 0 of a state without one
-pub first-other : (source : ℕ) → InLimits source → eqb 0 source ≡ false
+first-other : (source : ℕ) → InLimits source → eqb 0 source ≡ false
 first-other source h = ne-eqb 0 source (λ z. omega (arith, h .low))
 
 -- zeros over zeros
@@ -70,7 +70,7 @@ module _ (row : QualityMapping) (source target : ℕ) where
 
   module _ (hs : InLimits source) (ht : InLimits target) where
     -- only the lengths of the slices decide
-    pub by-lengths : (memLen coefsLen : ℕ) → rateVerdict row (freshState target) source memLen coefsLen
+    by-lengths : (memLen coefsLen : ℕ) → rateVerdict row (freshState target) source memLen coefsLen
         ≡ refuseIf (ltb memLen (historyNeeded (settingOf row source target .«filt_len»))) History
         (refuseIf (ltb coefsLen (settingOf row source target .coefs)) Coefficients Accept)
     unfolding rateVerdict freshState
@@ -84,12 +84,12 @@ module _ (row : QualityMapping) (source target : ℕ) where
     short-gets-2 mem coefs m = rw (by-lengths (length mem) (length coefs), lt-ltb (length mem) _ m)
 
     -- slices that are long enough
-    pub first-verdict : (memLen coefsLen : ℕ) → historyNeeded (settingOf row source target .«filt_len») ≤ memLen
+    first-verdict : (memLen coefsLen : ℕ) → historyNeeded (settingOf row source target .«filt_len») ≤ memLen
         → settingOf row source target .coefs ≤ coefsLen → rateVerdict row (freshState target) source memLen coefsLen ≡ Accept
     first-verdict memLen coefsLen m k = rw (by-lengths memLen coefsLen, le-ltb memLen _ m, le-ltb coefsLen _ k)
 
     -- the state belongs together
-    pub first-belongs : Sane row → belongsTogether row (firstState row source target) ≡ true
+    first-belongs : Sane row → belongsTogether row (firstState row source target) ≡ true
     unfolding freshState
     first-belongs sane =
         let memLen = historyNeeded (setting .«filt_len») in

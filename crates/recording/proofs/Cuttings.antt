@@ -2,7 +2,7 @@
 -- given. So the theorems are not about nothing, and every recording can be read to its end. Assumes nothing.
 use mathlib.Core.Path.{_≡_, refl, sym, _∙_, ap}
 use mathlib.Core.List.{List, [], _∷_, map}
-use Prim.Native.Nat.{ℕ, zero, suc, _+_, _/_, _≤_}
+use Prim.Native.Nat.{ℕ, zero, suc, _+_, _≤_}
 use native.Mathlib.Omega.{arith}
 use lib.Ieee.{Float}
 use lib.ListN.{length, take, drop, replicate, length-replicate}
@@ -25,8 +25,8 @@ use Rattle.resampler.specs.declared.Answer.{Answer}
 use Rattle.resampler.specs.declared.Answer.the-variants.{Refused, Accepted}
 use Rattle.pinned.specs.Pinned.{firstState}
 use Rattle.pinned.proofs.First.{new-accepted, first-rate}
-use Rattle.recording.specs.Recording.{Call, Recording, Progress, closed, opened, after, Follows, AllFollow}
-use Rattle.recording.specs.Demand3.{n, M, AllRead, total, AllGetOn, given, CutAs}
+use Rattle.recording.specs.Recording.{Call, Recording, Progress, closed, opened, after, Follows, AllFollow, withCalls}
+use Rattle.recording.specs.Demand3.{toRead, AllRead, total, AllGetOn, given, CutAs}
 use Rattle.recording.proofs.Reading.{read-at-last}
 
 -- ---- an answer that tells what is asked for
@@ -42,22 +42,23 @@ answer-tells Accept before after consumed written = refl
 
 -- of a call
 module _ (row : QualityMapping) (s : ResamplerState) (mem coefs input out : List Float) where
-  abbrev judged : Verdict
-  judged = processVerdict row s (length mem) (length coefs) (length input) (length out)
+  abbrev verdict : Verdict
+  verdict = processVerdict row s (length mem) (length coefs) (length input) (length out)
 
   abbrev numbers : Called
   numbers = played s coefs input (length out) mem .numbers
 
   abbrev processAnswer : Answer
   processAnswer =
-      byVerdict judged (λ f. Refused f s)
+      byVerdict verdict (λ f. Refused f s)
       (answering (playedState s (length input) (length out) numbers) (numbers .turn .consumed) (numbers .turn .written))
 
+  -- with the slices as the contract says they are
   process-answers : Processes row s mem coefs input out processAnswer (processHistory row s mem coefs input out) (processOutput row s mem coefs input out)
   unfolding processTold
   process-answers =
       record {
-        tells = answer-tells judged s (playedState s (length input) (length out) numbers) (numbers .turn .consumed) (numbers .turn .written);
+        tells = answer-tells verdict s (playedState s (length input) (length out) numbers) (numbers .turn .consumed) (numbers .turn .written);
         history = refl;
         output = refl;
       }
@@ -73,13 +74,14 @@ module _ (row : QualityMapping) (xs : List Float) where
   callFor h a =
       let input = take (a .0) (drop (h .consumed) xs) in
       record {
-        samples = a .0;
+        offers = a .0;
         out = a .1;
         answer = processAnswer row (h .state) (h .mem) (h .coefs) input (a .1);
         mem' = processHistory row (h .state) (h .mem) (h .coefs) input (a .1);
         out' = processOutput row (h .state) (h .mem) (h .coefs) input (a .1);
       }
 
+  -- it is what the contract asks for, and so is each of a list
   call-follows : (h : Progress) (a : ℕ × List Float) → Follows row xs h (callFor h a)
   call-follows h a = process-answers row (h .state) (h .mem) (h .coefs) (take (a .0) (drop (h .consumed) xs)) (a .1)
 
@@ -91,6 +93,7 @@ module _ (row : QualityMapping) (xs : List Float) where
   calls-follow h [] = tt
   calls-follow h (a ∷ more) = (call-follows h a, calls-follow (after h (callFor h a)) more)
 
+  -- they are given what they should be, and as many as there should be
   calls-given : (h : Progress) (cut : List (ℕ × List Float)) → map given (callsFor h cut) ≡ cut
   calls-given h [] = refl
   calls-given h (a ∷ more) = ap (λ (l : List (ℕ × List Float)). a ∷ l) (calls-given (after h (callFor h a)) more)
@@ -99,14 +102,15 @@ module _ (row : QualityMapping) (xs : List Float) where
   calls-long h [] = refl
   calls-long h (a ∷ more) = ap suc (calls-long (after h (callFor h a)) more)
 
+  -- calls with one sample and room for one output each get on
   ones-get-on : (h : Progress) (k : ℕ) → AllGetOn (callsFor h (replicate k one))
   ones-get-on h zero = tt
   ones-get-on h (suc k) =
-      (record { samples = omega arith; samples-to = omega arith; room = omega arith; room-to = omega arith }, ones-get-on (after h (callFor h one)) k)
+      (record { some = omega arith; offers-to = omega arith; room = omega arith; room-to = omega arith }, ones-get-on (after h (callFor h one)) k)
 
 -- ---- a recording
 module _ (row : QualityMapping) (source target : ℕ) (samples mem coefs : List Float) where
-  -- before its calls
+  -- before its calls: what `new` and set rate answer and leave
   abbrev begun : Recording
   begun =
       record {
@@ -122,23 +126,13 @@ module _ (row : QualityMapping) (source target : ℕ) (samples mem coefs : List 
         calls = [];
       }
 
+  -- and with the calls that are given this
   abbrev recordingFor : List (ℕ × List Float) → Recording
-  recordingFor cut =
-      record {
-        source = source;
-        target = target;
-        samples = samples;
-        mem = mem;
-        coefs = coefs;
-        new-answer = begun .new-answer;
-        rate-answer = begun .rate-answer;
-        mem' = begun .mem';
-        coefs' = begun .coefs';
-        calls = callsFor row (closed row begun) (opened begun) cut;
-      }
+  recordingFor cut = withCalls begun (callsFor row (closed row begun) (opened begun) cut)
 
   module _ (hs : InLimits source) (ht : InLimits target) (m : historyNeeded (settingOf row source target .«filt_len») ≤ length mem)
       (k : settingOf row source target .coefs ≤ length coefs) where
+    -- it is one, and it was cut so
     cut-as : (cut : List (ℕ × List Float)) → CutAs row source target samples mem coefs cut (recordingFor cut)
     cut-as cut =
         record {
@@ -164,10 +158,10 @@ module _ (row : QualityMapping) (source target : ℕ) (samples mem coefs : List 
     pub every-cutting : (cut : List (ℕ × List Float)) → (r : Recording) × CutAs row source target samples mem coefs cut r
     every-cutting cut = (recordingFor cut, cut-as cut)
 
-    -- one of them reads to the end: calls with one sample and room for one output each, as many as there are samples and outputs
+    -- one of them reads to the end: calls with one sample and room for one output each, as many as there is to read and to make
     pub can-be-read : Sane row → (cut : List (ℕ × List Float)) × (r : Recording) × CutAs row source target samples mem coefs cut r × AllRead row r
     can-be-read sane =
-        let calls = M row begun + n row begun / 2 + total row begun in
+        let calls = toRead row begun + total row begun in
         let cut = replicate calls one in
         let long : length (recordingFor cut .calls) ≡ calls = calls-long row (closed row begun) (opened begun) cut ∙ length-replicate calls one in
         (cut, recordingFor cut, cut-as cut, read-at-last row sane (recordingFor cut) (cut-as cut .made-under) (ones-get-on row (closed row begun) (opened begun) calls) (omega (arith, long)))

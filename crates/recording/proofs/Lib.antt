@@ -3,6 +3,7 @@ pub mod Reached
 pub mod Counts
 pub mod Outputs
 pub mod Reading
+pub mod Fronts
 pub mod Cuttings
 pub mod Totals
 pub mod Theorems

@@ -7,21 +7,21 @@ use Prim.Native.Nat.{ℕ, _+_, _-_, _*_, _%_, _≤_, _<_}
 use native.Mathlib.Nat.{mod-lt}
 use native.Mathlib.Omega.{arith}
 use lib.Ieee.{Float, nan}
-use lib.ListN.{length, take, drop, replicate, length-replicate, List·getD-append}
-use lib.Seq.{paste, getD-take, getD-drop, getD-append-add, ext-getD}
+use lib.ListN.{length, take, drop, replicate, length-append, length-replicate, List·getD-append}
+use lib.Seq.{getD-take, getD-drop, getD-append-add, ext-getD}
 use Rattle.math.specs.Numerals.{nought}
 use Rattle.ratio.specs.Lowest.{lowest}
 use Rattle.ratio.specs.declared.Ratio.{Ratio}
 use Rattle.sizes.specs.Sizes.{historyNeeded}
 use Rattle.timeline.specs.Samples.{Played}
-use Rattle.timeline.specs.Numbers.{Called}
+use Rattle.timeline.specs.Numbers.{Place, Called}
 use Rattle.timeline.specs.Recording as timeline
 use Rattle.timeline.specs.Recording.{streamOutput}
 use Rattle.timeline.specs.Laws as laws
 use Rattle.timeline.specs.Laws.{DifferWithin}
-use Rattle.timeline.proofs.Parts.{take-front}
+use Rattle.timeline.proofs.Parts.{getD-front}
 use Rattle.timeline.proofs.Theorems.{output-of-a-recording}
-use Rattle.timeline.proofs.Streams.{output-misses, closed-differ}
+use Rattle.timeline.proofs.Streams.{ahead-fresh, output-misses, length-closed, closed-differ}
 use Rattle.quality.specs.Quality.{Sane}
 use Rattle.quality.specs.declared.QualityMapping.{QualityMapping}
 use Rattle.rates.specs.Setting.{settingOf}
@@ -34,14 +34,9 @@ use Rattle.rounds.specs.Output.{phaseOf, weighOf}
 use Rattle.rounds.proofs.Phases.{reaches}
 use Rattle.rounds.proofs.Settings.{setting-playable}
 use Rattle.recording.specs.Recording.{Recording, settingFor, closed, finished, MadeUnder}
-use Rattle.recording.specs.Demand3.{num, den, n, M, made, stream, streamPosition, AllRead, outputAt, OutputsOfTheStream, Misses, TightBound, SameSettings, SameOutside}
+use Rattle.recording.specs.Demand3.{num, den, n, M, made, AllRead, stream, streamPosition, outputAt, StreamOutputs, Misses, TightBound, SameSettings, SameOutside}
 use Rattle.recording.proofs.Reached.{rateFor, weighing, coefs-is, reached}
-use Rattle.recording.proofs.Counts.{rate-fit, count}
-
--- the front of a slice that was written over is what was written
-front-at : (before s : List Float) (k j : ℕ) → k ≤ length s → j < k → at (paste before 0 s k) j ≡ at s j
-front-at before s k j h l =
-    sym (getD-take k (paste before 0 s k) j nan l) ∙ ap (λ (t : List Float). at t j) (take-front before s k h) ∙ getD-take k s j nan l
+use Rattle.recording.proofs.Counts.{rate-fit, moved, outputs-many, count}
 
 -- ---- one recording
 
@@ -67,17 +62,38 @@ module _ (row : QualityMapping) (sane : Sane row) (r : Recording) (m : MadeUnder
       let playable = setting-playable {row = row} {source = r .source} {target = r .target} sane (m .source-in) (m .target-in) in
       ap (λ (l : List Float). weighOf s l phase window) (coefs-is row sane r m)
       ∙ step-table (phaseOf s phase) (n row r) (s .oversample) (s .coefs) _ (tableOf s) window (reaches playable h (omega arith))
-      (λ j l. front-at (r .coefs) (tableOf s) (s .coefs) j long l)
+      (λ j l. getD-front (r .coefs) (tableOf s) (s .coefs) j nan long l)
 
-  pub outputs-of-the-stream : OutputsOfTheStream row r
-  outputs-of-the-stream k h =
+  -- output k is output k of the stream
+  output-at : (k : ℕ) → k < made row r → at (finished r .outputs) k ≡ outputAt row r k
+  output-at k h =
       let g = reached row sane r m in
       let out-is = ap (λ (p : Played Called Float). p .out) (g .same) in
       let excess = drop (rateFor row r .alloc) (r .mem) in
       ap (λ (l : List Float). at l k) (sym out-is)
-      ∙ output-of-a-recording (weighing row r) nought (rateFor row r) excess (closed row r) (g .offers) (rate-fit row sane r m) nan k (rw out-is h)
+      ∙ output-of-a-recording (weighing row r) nought (rateFor row r) excess (closed row r) (g .offers) (rate-fit row sane r m) nan k
+      (rw (out-is, outputs-many row sane r m) h)
       ∙ by-the-table (k * num row r % den row r) _ (mod-lt (k * num row r) (rate-fit row sane r m .den))
       ∙ streamed-is row r k
+
+  -- its window lies within the stream, since it was made where the position was below what is to be read
+  window-within : (k : ℕ) → k < made row r → streamPosition row r k + n row r ≤ length (stream row r)
+  window-within k h =
+      let below = moved row sane r m (finished r) (reached row sane r m) .below k h in
+      let place = ap (λ (p : Place). p .position) (ahead-fresh (rateFor row r) (rate-fit row sane r m) k) in
+      let zeros = replicate (n row r - 1) nought in
+      omega (
+        arith,
+        below,
+        place,
+        rate-fit row sane r m .n,
+        length-append zeros (closed row r),
+        length-replicate (n row r - 1) nought,
+        length-closed nought (rateFor row r) (r .samples),
+      )
+
+  pub stream-outputs : StreamOutputs row r
+  stream-outputs = record { many = outputs-many row sane r m; within = λ k h. omega (arith, window-within k h); each = output-at }
 
   -- ---- a NaN in the window
   module _ (i : ℕ) (within : i < M row r) (e : at (r .samples) i ≡ nan) where
@@ -99,7 +115,7 @@ module _ (row : QualityMapping) (sane : Sane row) (r : Recording) (m : MadeUnder
         let place : at-k + j ≡ n row r - 1 + i = omega arith in
         let entry : at (take (n row r) (drop at-k (stream row r))) j ≡ nan =
         getD-take (n row r) (drop at-k (stream row r)) j nan (omega arith) ∙ getD-drop at-k (stream row r) j nan ∙ ap (at (stream row r)) place ∙ entry-of in
-        outputs-of-the-stream k h ∙ step-nan (phaseOf s (k * num row r % den row r)) (n row r) (s .oversample) j (tableOf s) _ (omega arith) entry
+        output-at k h ∙ step-nan (phaseOf s (k * num row r % den row r)) (n row r) (s .oversample) j (tableOf s) _ (omega arith) entry
 
   pub tight-bound : TightBound row r
   tight-bound =
@@ -121,10 +137,10 @@ module _ (row : QualityMapping) (sane : Sane row) (q r : Recording) (o : MadeUnd
   outputs-agree : (k : ℕ) → streamed row (q .source) (q .target) (q .samples) k ≡ streamed row (q .source) (q .target) (r .samples) k
       → k < made row q → k < made row r → at (finished q .outputs) k ≡ at (finished r .outputs) k
   outputs-agree k e h g =
-      outputs-of-the-stream row sane q o k h
+      output-at row sane q o k h
       ∙ e
       ∙ ap₂ (λ (source target : ℕ). streamed row source target (r .samples) k) (same .source) (same .target)
-      ∙ sym (outputs-of-the-stream row sane r m k g)
+      ∙ sym (output-at row sane r m k g)
 
   pub damage-stays-local : (a b : ℕ) → DifferWithin a b (q .samples) (r .samples) → SameOutside row a b q r
   damage-stays-local a b w k misses h g =
@@ -135,14 +151,17 @@ module _ (row : QualityMapping) (sane : Sane row) (q r : Recording) (o : MadeUnd
       h g
 
   -- of the same samples, however they are cut
-  pub cutting-is-free : q .samples ≡ r .samples → (k : ℕ) → k < made row q → k < made row r → at (finished q .outputs) k ≡ at (finished r .outputs) k
-  cutting-is-free e k h g = outputs-agree k (ap (λ (l : List Float). streamed row (q .source) (q .target) l k) e) h g
+  pub same-output : q .samples ≡ r .samples → (k : ℕ) → k < made row q → k < made row r → at (finished q .outputs) k ≡ at (finished r .outputs) k
+  same-output e k h g = outputs-agree k (ap (λ (l : List Float). streamed row (q .source) (q .target) l k) e) h g
 
   -- so once both are read to the end, they have the same outputs
-  pub same-outputs : q .samples ≡ r .samples → AllRead row q → AllRead row r → finished q .outputs ≡ finished r .outputs
-  same-outputs e x y =
-      let long : made row q ≡ made row r =
+  pub cutting-is-free : q .samples ≡ r .samples → AllRead row q → AllRead row r → finished q .outputs ≡ finished r .outputs
+  cutting-is-free e x y =
+      let as-many : made row q ≡ made row r =
       count row sane q o x .exactly
       ∙ ap₂ (λ (l : List Float) (p : Ratio). closedTotal p (length l)) e (ap₂ lowest (same .source) (same .target))
       ∙ sym (count row sane r m y .exactly) in
-      ext-getD nan (finished q .outputs) (finished r .outputs) long (λ k h. cutting-is-free e k h (omega (arith, long)))
+      let a = outputs-many row sane q o in
+      let b = outputs-many row sane r m in
+      ext-getD nan (finished q .outputs) (finished r .outputs) (a ∙ as-many ∙ sym b)
+      (λ k h. same-output e k (omega (arith, a)) (omega (arith, a, as-many)))

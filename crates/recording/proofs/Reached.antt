@@ -7,7 +7,7 @@ use Prim.Native.Nat.{ℕ, _+_, _/_}
 use native.Mathlib.Nat.{add-zero, zero-add}
 use native.Mathlib.Omega.{arith}
 use lib.Ieee.{Float}
-use lib.ListN.{length, take, drop, replicate, length-append}
+use lib.ListN.{length, take, drop, replicate}
 use lib.Seq.{take-all}
 use Rattle.math.specs.Numerals.{nought}
 use Rattle.sizes.specs.Sizes.{historyNeeded}
@@ -64,7 +64,7 @@ done h =
     record {
       numbers =
           record {
-            turn = record { consumed = h .consumed; written = length (h .outputs); place = placeIn (h .state) };
+            turn = record { consumed = h .consumed; written = h .written; place = placeIn (h .state) };
             magic = h .state .«magic_samples»;
           };
       out = h .outputs;
@@ -86,11 +86,18 @@ module _ (h : Progress) where
   -- what a call told and left, put after what was done
   abbrev then : Told → List Float → List Float → Progress
   then t mem out =
-      record { state = t .state; mem = mem; coefs = h .coefs; consumed = h .consumed + t .consumed; outputs = h .outputs ++ take (t .written) out }
+      record {
+        state = t .state;
+        mem = mem;
+        coefs = h .coefs;
+        consumed = h .consumed + t .consumed;
+        written = h .written + t .written;
+        outputs = h .outputs ++ take (t .written) out;
+      }
 
   -- a refused call leaves all as it was
   then-refused : (f : Refusal) (out : List Float) → then (refused f (h .state)) (h .mem) out ≡ h
-  then-refused f out = rw (add-zero (h .consumed), append-nil (h .outputs))
+  then-refused f out = rw (add-zero (h .consumed), add-zero (h .written), append-nil (h .outputs))
 
   -- an accepted one is one of `timeline`'s calls more
   then-played : (inn : ℕ) (out : List Float) (p : Played Called Float) → length (p .out) ≡ p .numbers .turn .written
@@ -98,7 +105,7 @@ module _ (h : Progress) where
   then-played inn out p e =
       let k = p .numbers .turn .written in
       let takes : take k (playedOutput p out) ≡ p .out = take-front out (p .out) k (omega arith) ∙ take-all k (p .out) (omega arith) in
-      rw (takes, length-append (h .outputs) (p .out), e)
+      rw takes
 
 module _ (row : QualityMapping) (sane : Sane row) (r : Recording) (h : Progress) (g : Reached row r h) (c : Call) where
   abbrev input : List Float
@@ -109,7 +116,7 @@ module _ (row : QualityMapping) (sane : Sane row) (r : Recording) (h : Progress)
 
   -- as an offer
   abbrev pub offer : Offer
-  offer = record { samples = c .samples; room = room }
+  offer = record { samples = c .offers; room = room }
 
   -- its verdict
   abbrev pub judged : Verdict
@@ -145,6 +152,10 @@ module _ (row : QualityMapping) (sane : Sane row) (r : Recording) (h : Progress)
   -- a refused call changes nothing
   pub refused-stays : (f : Refusal) → judged ≡ Refuse f → Follows row (closed row r) h c → after h c ≡ h
   refused-stays f v p = by-verdict p ∙ rw v (then-refused h f (c .out))
+
+  pub refused-output : (f : Refusal) → judged ≡ Refuse f → Follows row (closed row r) h c → c .out' ≡ c .out
+  unfolding processOutput
+  refused-output f v p = p .output ∙ rw v
 
   -- an accepted one is one of `timeline`'s more
   leads-on : done (leads Accept) ≡ playThen callThen (done h) theirs
@@ -192,34 +203,34 @@ module _ (row : QualityMapping) (sane : Sane row) (r : Recording) (h : Progress)
 -- ---- the first
 module _ (row : QualityMapping) (sane : Sane row) (r : Recording) (m : MadeUnder row r) where
   -- a new state for a target in limits is accepted, and so is its first rate
-  made-is : told (r .new-answer) ≡ accepted (freshState (r .target)) 0 0
-  made-is = m .new ∙ new-accepted (r .target) (m .target-in)
+  new-is : told (r .new-answer) ≡ accepted (freshState (r .target)) 0 0
+  new-is = m .new ∙ new-accepted (r .target) (m .target-in)
 
-  rate : SetsRate row (freshState (r .target)) (r .source) (r .mem) (r .coefs) (r .rate-answer) (r .mem') (r .coefs')
-  rate = rw made-is at (m .rate)
+  set-rate : SetsRate row (freshState (r .target)) (r .source) (r .mem) (r .coefs) (r .rate-answer) (r .mem') (r .coefs')
+  set-rate = rw new-is at (m .rate)
 
   rated-is : told (r .rate-answer) ≡ accepted (firstState row (r .source) (r .target)) 0 0
-  rated-is = rate .tells ∙ first-rate row (r .source) (r .target) (m .source-in) (m .target-in) (r .mem) (r .coefs) (m .history) (m .coefficients)
+  rated-is = set-rate .tells ∙ first-rate row (r .source) (r .target) (m .source-in) (m .target-in) (r .mem) (r .coefs) (m .history) (m .coefficients)
 
   -- the history is silence, and past alloc what was there
   mem-is : r .mem' ≡ replicate (rateFor row r .alloc) nought ++ drop (rateFor row r .alloc) (r .mem)
   mem-is =
-      rate .history
+      set-rate .history
       ∙ first-history row (r .source) (r .target) (m .source-in) (m .target-in) (r .mem) (r .coefs) (m .history) (m .coefficients)
       ∙ rw (take-replicate (rateFor row r .alloc) (rateFor row r .alloc) nought (omega arith), zero-add (rateFor row r .alloc))
 
   -- the coefficients are the table, and past it what was there
   pub coefs-is : r .coefs' ≡ updatedCoefficients (settingFor row r) (r .coefs)
   coefs-is =
-      rate .coefficients
+      set-rate .coefficients
       ∙ first-coefficients row (r .source) (r .target) (m .source-in) (m .target-in) (r .mem) (r .coefs) (m .history) (m .coefficients)
 
   -- both keep their lengths
   mem-long : length (r .mem') ≡ length (r .mem)
-  mem-long = ap length (rate .history) ∙ rate-keeps-excess row sane (freshState (r .target)) (r .source) (r .mem) (r .coefs) .0 .long
+  mem-long = ap length (set-rate .history) ∙ rate-keeps-excess row sane (freshState (r .target)) (r .source) (r .mem) (r .coefs) .0 .long
 
   coefs-long : length (r .coefs') ≡ length (r .coefs)
-  coefs-long = ap length (rate .coefficients) ∙ rate-keeps-excess row sane (freshState (r .target)) (r .source) (r .mem) (r .coefs) .1 .long
+  coefs-long = ap length (set-rate .coefficients) ∙ rate-keeps-excess row sane (freshState (r .target)) (r .source) (r .mem) (r .coefs) .1 .long
 
   -- it begins where `timeline`'s does: at n/2, at phase 0, without magic samples
   abbrev first : ResamplerState

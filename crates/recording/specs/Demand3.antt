@@ -1,5 +1,5 @@
 -- Demand 3, and the last paragraph of "One output, one call": what is claimed of every recording, in the numbers that its rates give: num, den, n, the
--- kernel and its table. `proofs/Theorems.antt` proves each claim, over any sane row. Assumes nothing.
+-- kernel and its table. `proofs/Theorems.antt` proves it, over any sane row. Assumes nothing.
 use mathlib.Core.Path.{_≡_}
 use mathlib.Core.Logic.{_⊎_}
 use mathlib.Core.Bool.{cond, _||_}
@@ -19,6 +19,7 @@ use Rattle.kernel.specs.Step.{stepOf}
 use Rattle.rounds.specs.Output.{phaseOf}
 use Rattle.judge.specs.Refusals.{maxCall}
 use Rattle.resampler.specs.Answers.{told}
+use Rattle.pinned.specs.Pinned.{IsRefused}
 use Rattle.recording.specs.Recording.{Call, Recording, settingFor, closed, after, finished, offered, MadeUnder}
 
 module _ (row : QualityMapping) (r : Recording) where
@@ -35,28 +36,32 @@ module _ (row : QualityMapping) (r : Recording) where
   abbrev pub M : ℕ
   M = length (r .samples)
 
-  -- how many outputs there are
+  -- how many outputs were made, by the counts that the calls told
   abbrev pub made : ℕ
-  made = length (finished r .outputs)
+  made = finished r .written
 
   -- ---- the law
 
-  -- after k outputs and T consumed: den*(T+position)+phase = den*(n/2)+k*num
+  -- T samples consumed and the place reached are n/2 and num den-ths for each of k outputs: den*(T+position)+phase = den*(n/2)+k*num
   pub record PositionLaw : Type 0 where
     pub law : den * (finished r .consumed + finished r .state .«last_sample») + finished r .state .«samp_frac_num» ≡ den * (n / 2) + made * num
     pub phase : finished r .state .«samp_frac_num» < den
 
   -- ---- the count
 
-  -- all M samples and the closing zeros are read
+  -- how much is to be read: the M samples and the closing zeros
+  abbrev pub toRead : ℕ
+  toRead = M + n / 2
+
+  -- all of it is read
   abbrev pub AllRead : Type 0
-  AllRead = finished r .consumed ≡ M + n / 2
+  AllRead = finished r .consumed ≡ toRead
 
   -- M*den/num, rounded up, as the quotient (M*den+num-1)/num
   abbrev pub total : ℕ
   total = closedTotal (lowest (r .source) (r .target)) M
 
-  -- exactly so many outputs exist, and that is the least number whose product with num reaches M*den
+  -- exactly so many outputs were made, and that is the least number whose product with num reaches M*den
   pub record Counted : Type 0 where
     pub exactly : made ≡ total
     pub least : Ceiling (M * den) num made
@@ -77,9 +82,11 @@ module _ (row : QualityMapping) (r : Recording) where
       let s = settingFor row r in
       stepOf (phaseOf s (k * num % den)) n (s .oversample) (tableOf s) (take n (drop (streamPosition k) stream))
 
-  -- every output that exists is that one
-  abbrev pub OutputsOfTheStream : Type 0
-  OutputsOfTheStream = (k : ℕ) → k < made → at (finished r .outputs) k ≡ outputAt k
+  -- there are as many outputs as the counts say; the window of each lies within the stream; and each is that one
+  pub record StreamOutputs : Type 0 where
+    pub many : length (finished r .outputs) ≡ made
+    pub within : (k : ℕ) → k < made → streamPosition k + n ≤ length stream
+    pub each : (k : ℕ) → k < made → at (finished r .outputs) k ≡ outputAt k
 
   -- ---- damage
 
@@ -87,7 +94,7 @@ module _ (row : QualityMapping) (r : Recording) where
   abbrev pub Misses : ℕ → ℕ → ℕ → Type 0
   Misses a b k = (streamPosition k < a) ⊎ (b + n - 1 ≤ streamPosition k)
 
-  -- one less on either side would not do: a NaN as sample a reaches every output at stream position a, and as sample b-1 every one at b+n-2
+  -- the next positions on either side are not missed: a NaN as sample a reaches every output at stream position a, and as sample b-1 every one at b+n-2
   pub record TightBound : Type 0 where
     pub below : (a k : ℕ) → a < M → at (r .samples) a ≡ nan → streamPosition k ≡ a → k < made → at (finished r .outputs) k ≡ nan
     pub above : (b k : ℕ) → 0 < b → b ≤ M → at (r .samples) (b - 1) ≡ nan → streamPosition k ≡ b + n - 2 → k < made
@@ -105,35 +112,36 @@ SameOutside row a b q r =
 
 -- ---- calls, and how all comes to be read
 
--- a call made where a recording stands is refused where it is offered no sample, or more samples or room than one call takes. Then it changes nothing
+-- a call made where a recording stands gets 4 where it is offered no sample, 5 where that or the room is more than one call takes, and is accepted
+-- else. Refused, it changes nothing
 pub record NextCall (row : QualityMapping) (r : Recording) (c : Call) : Type 0 where
   pub number : told (c .answer) .number
       ≡ (let inn = length (offered (closed row r) (finished r) c) in
       cond (eqb inn 0) 4 (cond (ltb maxCall inn || ltb maxCall (length (c .out))) 5 0))
-  pub refused : (told (c .answer) .number ≡ 0 → ⊥) → after (finished r) c ≡ finished r
+  pub refused : IsRefused (told (c .answer)) → (after (finished r) c ≡ finished r) × (c .out' ≡ c .out)
 
 -- a call is offered everything that is left, with more room than the outputs that the count lacks, and no more of either than one call takes
 pub record OffersAll (row : QualityMapping) (r : Recording) (c : Call) : Type 0 where
-  pub samples : M row r + n row r / 2 ≤ finished r .consumed + c .samples
-  pub samples-to : M row r + n row r / 2 ≤ finished r .consumed + maxCall
+  pub all : toRead row r ≤ finished r .consumed + c .offers
+  pub left-to : toRead row r ≤ finished r .consumed + maxCall
   pub room : total row r < made row r + length (c .out)
   pub room-to : length (c .out) ≤ maxCall
 
--- a call within what one call takes, with a sample or more and room for an output or more
+-- a call is offered a sample or more, with room for an output or more, and no more of either than one call takes
 pub record GetsOn (c : Call) : Type 0 where
-  pub samples : 0 < c .samples
-  pub samples-to : c .samples ≤ maxCall
+  pub some : 0 < c .offers
+  pub offers-to : c .offers ≤ maxCall
   pub room : 0 < length (c .out)
   pub room-to : length (c .out) ≤ maxCall
 
--- every call of a list is one
+-- every call of a list gets on so
 abbrev pub AllGetOn : List Call → Type 0
 AllGetOn [] = Unit {0}
 AllGetOn (c ∷ cs) = GetsOn c × AllGetOn cs
 
 -- what a call is given: the most samples that it is offered, and the output that it is lent
 abbrev pub given : Call → ℕ × List Float
-given c = (c .samples, c .out)
+given c = (c .offers, c .out)
 
 -- a recording of these samples at these rates, in these slices, whose calls are given this
 pub record CutAs (row : QualityMapping) (source target : ℕ) (samples mem coefs : List Float) (cut : List (ℕ × List Float)) (r : Recording) : Type 0 where

@@ -1,6 +1,6 @@
--- Demand 3: a recording, as the calls that made it. It begins with `new` and one set rate. Then comes any list of calls of `process_float`, each on
--- the state and the slices that the last one left, with samples not read yet. Of every call it is asked that what it answered and left is what its
--- contract ensures, and nothing else. Assumes nothing.
+-- Document 01, "One output, one call", and demand 3: a recording, as the calls that made it. It begins with `new` and one set rate. Then comes any list
+-- of calls of `process_float`, each on the state and the slices that the last one left, with samples that are not read yet. Of every call it is asked
+-- that what it answers and leaves is what its contract ensures, and nothing else. Assumes nothing.
 use mathlib.Core.Path.{_≡_}
 use mathlib.Core.List.{List, [], _∷_, _++_}
 use Prim.Native.Nat.{ℕ, _+_, _/_, _≤_}
@@ -20,7 +20,7 @@ use Rattle.resampler.specs.declared.Answer.{Answer}
 -- one call of `process_float`
 pub record Call : Type 0 where
   -- the most unread samples that it is offered, and what the output that it is lent holds. Its room is the output's length
-  pub samples : ℕ
+  pub offers : ℕ
   pub out : List Float
   -- what it answers, and what the history and the output hold at exit
   pub answer : Answer
@@ -52,27 +52,31 @@ settingFor row r = settingOf row (r .source) (r .target)
 abbrev pub closed : QualityMapping → Recording → List Float
 closed row r = r .samples ++ replicate (settingFor row r .«filt_len» / 2) nought
 
--- where it stands between two calls: the state and the slices for the next one, how many samples were consumed, and the outputs, in order
+-- where it stands between two calls: the state and the slices for the next one; the sums of the consumed and the written counts that the calls told;
+-- and the outputs, in order
 pub record Progress : Type 0 where
   pub state : ResamplerState
   pub mem : List Float
   pub coefs : List Float
   pub consumed : ℕ
+  pub written : ℕ
   pub outputs : List Float
 
 -- before the first call
 abbrev pub opened : Recording → Progress
-opened r = record { state = told (r .rate-answer) .state; mem = r .mem'; coefs = r .coefs'; consumed = 0; outputs = [] }
+opened r = record { state = told (r .rate-answer) .state; mem = r .mem'; coefs = r .coefs'; consumed = 0; written = 0; outputs = [] }
 
 -- one call more
 abbrev pub after : Progress → Call → Progress
 after h c =
+    let t = told (c .answer) in
     record {
-      state = told (c .answer) .state;
+      state = t .state;
       mem = c .mem';
       coefs = h .coefs;
-      consumed = h .consumed + told (c .answer) .consumed;
-      outputs = h .outputs ++ take (told (c .answer) .written) (c .out');
+      consumed = h .consumed + t .consumed;
+      written = h .written + t .written;
+      outputs = h .outputs ++ take (t .written) (c .out');
     }
 
 -- all calls of a list
@@ -86,7 +90,7 @@ finished r = afterAll (opened r) (r .calls)
 
 -- the samples that a call is offered: so many of the first that are not read yet, and all of them where fewer are left
 abbrev pub offered : List Float → Progress → Call → List Float
-offered xs h c = take (c .samples) (drop (h .consumed) xs)
+offered xs h c = take (c .offers) (drop (h .consumed) xs)
 
 -- a call made there is what `process_float` ensures
 abbrev pub Follows : QualityMapping → List Float → Progress → Call → Type 0
@@ -106,3 +110,19 @@ pub record MadeUnder (row : QualityMapping) (r : Recording) : Type 0 where
   pub new : told (r .new-answer) ≡ newTold (r .target)
   pub rate : SetsRate row (told (r .new-answer) .state) (r .source) (r .mem) (r .coefs) (r .rate-answer) (r .mem') (r .coefs')
   pub calls : AllFollow row (closed row r) (opened r) (r .calls)
+
+-- the same beginning, with other calls
+abbrev pub withCalls : Recording → List Call → Recording
+withCalls r cs =
+    record {
+      source = r .source;
+      target = r .target;
+      samples = r .samples;
+      mem = r .mem;
+      coefs = r .coefs;
+      new-answer = r .new-answer;
+      rate-answer = r .rate-answer;
+      mem' = r .mem';
+      coefs' = r .coefs';
+      calls = cs;
+    }

@@ -36,13 +36,13 @@ totalTold (Refused r) = refusedTotal r
 totalTold TooMany = tooManyTotal
 totalTold (Closed written) = countedTotal (written .0)
 
--- the most samples whose total is told
-abbrev pub maxTotal : ℕ
-maxTotal = 2 ^ 40
+-- the most samples of a recording whose total is told
+abbrev pub maxSamples : ℕ
+maxSamples = 2 ^ 40
 
 -- for two rates and M samples: the rates are judged first, both alike, and then the count
 unfoldable pub closedTotalTold : ℕ → ℕ → ℕ → TotalTold
 closedTotalTold source target M =
     cond (not (inLimits source) || not (inLimits target)) (refusedTotal Rate)
-    (cond (ltb maxTotal M) tooManyTotal
+    (cond (ltb maxSamples M) tooManyTotal
     (countedTotal (closedTotal (lowest source target) M)))

@@ -13,11 +13,11 @@ ghost use Prim.Native.Nat.{_≤_};
 ghost use Rattle.ratio.specs.Lowest.{lowest};
 ghost use Rattle.sizes.specs.Sizes.{InLimits};
 ghost use Rattle.rates.specs.Rated.{closedTotal};
-ghost use Rattle.recording.specs.Totals.{totalTold, maxTotal, closedTotalTold};
+ghost use Rattle.recording.specs.Totals.{totalTold, maxSamples, closedTotalTold};
 
-// The most samples whose total is told. Times any rate in limits they stay within 58 bits, so
-// nothing overflows.
-const MAX_TOTAL: u64 = 1 << 40;
+// The most samples of a recording whose total is told. Times any rate in limits they stay within 58
+// bits, so nothing overflows.
+const MAX_SAMPLES: u64 = 1 << 40;
 
 // How many outputs a closed recording has. Refused: a rate is out of limits. TooMany: there are more
 // samples than a total is told for, which no number of document 01 fits.
@@ -27,8 +27,9 @@ pub enum Total {
     Closed(Written),
 }
 
-// How many outputs a closed recording of so many samples has, worked out from its length alone. The
-// rates are judged before the count, so a bad rate gets refusal 1 however many samples there are.
+// How many outputs a closed recording has, worked out from its length alone. `samples` are those of the
+// recording itself, without the zeros that close it: those are read too, but add nothing here. The rates
+// are judged before the count, so a bad rate gets refusal 1 however many samples there are.
 pub fn closed_total(samples: Consumed, source: u32, target: u32) -> Total
     ensures { λ r. ⌜ totalTold r ≡ closedTotalTold source target (samples .0) ⌝ }
 {
@@ -38,7 +39,7 @@ pub fn closed_total(samples: Consumed, source: u32, target: u32) -> Total
     if !sizes::in_limits(target) {
         return Total::Refused(Refusal::Rate);
     }
-    if MAX_TOTAL < samples.0 {
+    if MAX_SAMPLES < samples.0 {
         return Total::TooMany;
     }
     Total::Closed(Written(outputs_of(samples.0, source, target)))
@@ -47,7 +48,7 @@ pub fn closed_total(samples: Consumed, source: u32, target: u32) -> Total
 // Output k stands at k * num / den samples, and the recording has each one that stands before its
 // end: that many are samples * den / num, rounded up.
 fn outputs_of(samples: u64, source: u32, target: u32) -> u64
-    requires { ⌜ InLimits source × InLimits target × (samples ≤ maxTotal) ⌝ }
+    requires { ⌜ InLimits source × InLimits target × (samples ≤ maxSamples) ⌝ }
     ensures { λ r. ⌜ r ≡ closedTotal (lowest source target) samples ⌝ }
 {
     let ratio = simplify(source as u64, target as u64);

@@ -1,11 +1,11 @@
 -- Facts on parts of lists that the library lacks. Assumes nothing.
 use mathlib.Core.Path.{_≡_, refl, sym, _∙_, ap}
 use mathlib.Core.List.{List, [], _∷_, _++_}
-use Prim.Native.Nat.{ℕ, zero, suc, _+_, _-_, _≤_}
+use Prim.Native.Nat.{ℕ, zero, suc, _+_, _-_, _≤_, _<_}
 use native.Mathlib.Nat.{zero-add, suc-add, sub-zero, zero-sub, suc-sub-suc, not-suc-le-zero, le-of-suc-le-suc}
 use native.Mathlib.Omega.{arith}
-use lib.ListN.{length, take, drop, replicate}
-use lib.Seq.{paste, take-nil, drop-nil, take-take, drop-drop, take-paste, drop-paste}
+use lib.ListN.{length, take, drop, replicate, getD}
+use lib.Seq.{paste, take-nil, drop-nil, take-take, drop-drop, getD-take, take-paste, drop-paste}
 
 module _ {A : Type 0} where
   take-drop : (n at : ℕ) (l : List A) → take n (drop at l) ≡ drop at (take (at + n) l)
@@ -38,6 +38,10 @@ module _ {A : Type 0} where
   -- entries pasted at the front
   pub take-front : (d s : List A) (k : ℕ) → k ≤ length s → take k (paste d 0 s k) ≡ take k s
   take-front d s k h = ap (λ (j : ℕ). take j (paste d 0 s k)) (sym (zero-add k)) ∙ take-paste d 0 s k (omega arith) h
+
+  pub getD-front : (d s : List A) (k j : ℕ) (z : A) → k ≤ length s → j < k → getD (paste d 0 s k) j z ≡ getD s j z
+  getD-front d s k j z h l =
+      sym (getD-take k (paste d 0 s k) j z l) ∙ ap (λ (t : List A). getD t j z) (take-front d s k h) ∙ getD-take k s j z l
 
   -- what lies past the pasted entries stays
   pub drop-past : (d s : List A) (at k j : ℕ) → at + k ≤ j → at ≤ length d → k ≤ length s → drop j (paste d at s k) ≡ drop j d

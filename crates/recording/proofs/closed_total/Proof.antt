@@ -6,16 +6,23 @@ use borrow.Author.Needs.{needs}
 use borrow.Author.Tests.{lt-ltb, le-ltb, not-false}
 use Rattle.sizes.specs.Sizes.{inLimits}
 use Rattle.sizes.proofs.Tests.{test-passed}
-use Rattle.recording.specs.Totals.{maxTotal, closedTotalTold}
+use Rattle.recording.specs.Totals.{maxSamples, closedTotalTold}
 use Rattle.recording.proofs.closed_total.Statement.{statement}
 use Rattle.recording.proofs.closed_total.Tie as tie
 
+-- from each place to the one before it where a test was left, and to the start
+abbrev start : tie.Else1 → tie.Start
+start c = c .before .before
+
+abbrev to1 : tie.Else2 → tie.Else1
+to1 c = c .before .before
+
 -- the source rate is in limits
-source-at : (c : tie.Else1) → not (inLimits (c .before .before .args .source)) ≡ false
+source-at : (c : tie.Else1) → not (inLimits (start c .args .source)) ≡ false
 source-at c = ap not (sym (c .before .in-limits .ensures)) ∙ c .if1 .left
 
 -- and so is the target rate
-target-at : (c : tie.Else2) → not (inLimits (c .before .before .before .before .args .target)) ≡ false
+target-at : (c : tie.Else2) → not (inLimits (start (to1 c) .args .target)) ≡ false
 target-at c = ap not (sym (c .before .in-limits2 .ensures)) ∙ c .if2 .left
 
 in-limits-requires : tie.Need-in-limits-requires
@@ -36,18 +43,18 @@ returns-3 : tie.Need-returns-3
 unfolding closedTotalTold
 returns-3 c =
     let p = c .before .before in
-    rw (source-at (p .before .before), target-at p, lt-ltb maxTotal (p .before .before .before .before .args .samples .0) (omega (arith, c .if3 .taken)))
+    rw (source-at (to1 p), target-at p, lt-ltb maxSamples (start (to1 p) .args .samples .0) (omega (arith, c .if3 .taken)))
 
 outputs-of-requires : tie.Need-outputs-of-requires
 outputs-of-requires c κs =
     let p = c .before .before in
-    (test-passed _ (not-false _ (source-at (p .before .before))), test-passed _ (not-false _ (target-at p)), omega arith)
+    (test-passed _ (not-false _ (source-at (to1 p))), test-passed _ (not-false _ (target-at p)), omega arith)
 
 returns-4 : tie.Need-returns-4
 unfolding closedTotalTold
 returns-4 c =
     let p = c .before .before .before in
-    rw (source-at (p .before .before), target-at p, le-ltb maxTotal _ (c .before .if3 .left), c .outputs-of .ensures)
+    rw (source-at (to1 p), target-at p, le-ltb maxSamples _ (c .before .if3 .left), c .outputs-of .ensures)
 
 pub closed-total-spec : {M : Type 1} → statement M
 closed-total-spec =

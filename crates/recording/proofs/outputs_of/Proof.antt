@@ -7,7 +7,7 @@ use Rattle.ratio.specs.Lowest.{lowest}
 use Rattle.ratio.specs.declared.Ratio.{Ratio}
 use Rattle.sizes.specs.Sizes.{InLimits, RatioInLimits}
 use Rattle.rates.proofs.Limits.{ratio-in-limits}
-use Rattle.recording.specs.Totals.{maxTotal}
+use Rattle.recording.specs.Totals.{maxSamples}
 use Rattle.recording.proofs.outputs_of.Statement.{statement}
 use Rattle.recording.proofs.outputs_of.Tie as tie
 
@@ -15,10 +15,10 @@ use Rattle.recording.proofs.outputs_of.Tie as tie
 record Small (samples : ℕ) (r : Ratio) : Type 0 where
   num-from : 1 ≤ r .num
   num-to : r .num ≤ 192000
-  product-to : samples * r .den ≤ maxTotal * 192000
+  product-to : samples * r .den ≤ maxSamples * 192000
 
 -- two rates in limits give such a ratio
-small : {source target samples : ℕ} {r : Ratio} → InLimits source × InLimits target × (samples ≤ maxTotal)
+small : {source target samples : ℕ} {r : Ratio} → InLimits source × InLimits target × (samples ≤ maxSamples)
     → r ≡ lowest source target → Small samples r
 small {source} {target} {samples} {r} p e =
     let terms : RatioInLimits (r .num) (r .den) = rw e (ratio-in-limits source target (p .0) (p .1)) in
