@@ -8,7 +8,8 @@ use lib.Ieee.{Float, nan, inf, fin, binary32, fits, ne, isNan, ofBits, toBits}
 use lib.Ieee.Bits.{ofBits-toBits}
 use lib.Ieee.Compare.{differs-from-itself, nan-differs}
 use Rattle.state.specs.Belongs.{sameExponent, sameBits}
-use Rattle.state.proofs.Tests.{both, by-test}
+use Rattle.sizes.proofs.Tests.{both}
+use Rattle.state.proofs.Tests.{by-test}
 
 -- ---- the test `x != x`
 pub nan-if : (x : Float) → ne x x ≡ true → isNan x ≡ true

@@ -4,11 +4,8 @@ use mathlib.Core.Bool.{Bool, true, false, _&&_, _||_, true≢false}
 use mathlib.Core.List.{List, [], _∷_}
 use Prim.Native.Nat.{ℕ, zero, suc}
 use lib.ListN.{getD}
+use Rattle.sizes.proofs.Tests.{both}
 use Rattle.state.specs.Belongs.{andAll, allHold}
-
-pub both : (a b : Bool) → a && b ≡ true → (a ≡ true) × (b ≡ true)
-both true b e = (refl, e)
-both false b e = absurd (true≢false (sym e))
 
 -- one of two tests, not the first
 pub second : (a b : Bool) → a ≡ false → a || b ≡ true → b ≡ true

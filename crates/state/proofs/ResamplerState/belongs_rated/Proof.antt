@@ -2,8 +2,7 @@
 use mathlib.Core.Path.{_≡_, sym}
 use mathlib.Core.Bool.{true, _&&_}
 use Rattle.sizes.specs.Sizes.{inLimits}
-use Rattle.sizes.proofs.Tests.{test-passed}
-use Rattle.state.proofs.Tests.{both}
+use Rattle.sizes.proofs.Tests.{both, test-passed}
 use Rattle.state.proofs.Belonging.{in-limits-rest, out-of-limits}
 use borrow.Author.Needs.{needs}
 use Rattle.state.proofs.ResamplerState.belongs_rated.Statement.{statement}
