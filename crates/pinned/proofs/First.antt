@@ -1,7 +1,7 @@
--- A new state and its first rate, for any row and any two rates in limits: both are accepted where the lent slices are long enough, and what they
--- leave. Then a call with any state that has a rate: only the input and the room decide. Assumes nothing.
+-- A new state and its first rate, for any row and any two rates in limits: both are accepted where the lent slices are long enough, and this is
+-- the state, the history and the coefficients that they lead to. Assumes nothing.
 use mathlib.Core.Path.{_≡_, ap}
-use mathlib.Core.Bool.{true, false, _||_}
+use mathlib.Core.Bool.{true, false}
 use mathlib.Core.List.{List, _++_}
 use Prim.Native.Nat.{ℕ, _≤_, _<_}
 use native.Mathlib.Nat.{zero-max, sub-zero}
@@ -22,11 +22,9 @@ use Rattle.rates.specs.declared.Setting.{Setting}
 use Rattle.reshape.specs.Reshaped.{reshapedHistory}
 use Rattle.state.specs.State.{freshState, settingIn}
 use Rattle.state.specs.Belongs.{belongsTogether}
-use Rattle.state.specs.declared.ResamplerState.{ResamplerState}
 use Rattle.state.proofs.Belonging.{fresh-state-belongs, rated-belongs}
-use Rattle.judge.specs.Refusals.{maxCall}
-use Rattle.judge.specs.Verdicts.{refuseIf, newVerdict, rateVerdict, processVerdict}
-use Rattle.judge.specs.declared.Refusal.the-variants.{History, Coefficients, EmptyInput, TooLong}
+use Rattle.judge.specs.Verdicts.{refuseIf, newVerdict, rateVerdict}
+use Rattle.judge.specs.declared.Refusal.the-variants.{History, Coefficients}
 use Rattle.judge.specs.declared.Verdict.the-variants.{Accept}
 use Rattle.judge.proofs.Judged.{ProcessAccepted}
 use Rattle.update.specs.Updated.{withSetting, updatedCoefficients}
@@ -128,21 +126,3 @@ module _ (row : QualityMapping) (source target : ℕ) where
       pub first-coefficients : rateCoefficients row (freshState target) source mem coefs ≡ updatedCoefficients (settingOf row source target) coefs
       unfolding rateCoefficients freshState
       first-coefficients = rw (first-verdict (length mem) (length coefs) m k, first-other source hs)
-
--- ---- a call with a state that has a rate, and slices that are long enough for it
-module _ (row : QualityMapping) (s : ResamplerState) (memLen coefsLen : ℕ) (fits : ProcessAccepted row s memLen coefsLen) where
-  -- only the input and the room decide
-  pub by-input : (inn room : ℕ) → processVerdict row s memLen coefsLen inn room
-      ≡ refuseIf (eqb inn 0) EmptyInput (refuseIf (ltb maxCall inn || ltb maxCall room) TooLong Accept)
-  unfolding processVerdict
-  by-input inn room =
-      rw (
-        fits .belongs,
-        ne-eqb (s .source) 0 (fits .has-rate),
-        le-ltb memLen (s .«mem_alloc_size») (fits .history),
-        le-ltb coefsLen (settingIn s .coefs) (fits .coefficients),
-      )
-
-  -- some input, and neither it nor the room longer than a call takes
-  pub call-accepted : (inn room : ℕ) → 0 < inn → inn ≤ maxCall → room ≤ maxCall → processVerdict row s memLen coefsLen inn room ≡ Accept
-  call-accepted inn room some i r = rw (by-input inn room, ne-eqb inn 0 (λ z. omega arith), le-ltb maxCall inn i, le-ltb maxCall room r)

@@ -4,3 +4,4 @@ pub mod OneResult
 pub mod StillBelongs
 pub mod Untouched
 pub mod First
+pub mod Calls

@@ -36,7 +36,7 @@ module _ (row : QualityMapping) (sane : Sane row) (r : Recording) (m : MadeUnder
   rate-fit = rate-fits (rateFor row r .alloc) sane (limits row sane (r .source) (r .target) (m .source-in) (m .target-in)) (omega arith)
 
   -- the numbers so far are those that the offers give
-  pub numbers-are : (h : Progress) (g : Reached row r h) → recorded (rateFor row r) (length (closed row r)) (g .offers) ≡ done h .numbers
+  numbers-are : (h : Progress) (g : Reached row r h) → recorded (rateFor row r) (length (closed row r)) (g .offers) ≡ done h .numbers
   numbers-are h g =
       sym (numbers-of-a-recording (weighing row r) nought (rateFor row r) (drop (rateFor row r .alloc) (r .mem)) (closed row r) (g .offers))
       ∙ ap (λ (p : Played Called Float). p .numbers) (g .same)

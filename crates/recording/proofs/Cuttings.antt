@@ -1,11 +1,11 @@
 -- Every cutting is a recording: for rates in limits and slices that are long enough there are answers that the contracts ask for, whatever the calls are
--- given. So the theorems are not about nothing, and every recording can be read to its end. Assumes nothing.
+-- given. So the theorems are not about nothing; and for all samples there is a recording that is read to its end. Assumes nothing.
 use mathlib.Core.Path.{_≡_, refl, sym, _∙_, ap}
 use mathlib.Core.List.{List, [], _∷_, map}
 use Prim.Native.Nat.{ℕ, zero, suc, _+_, _≤_}
 use native.Mathlib.Omega.{arith}
 use lib.Ieee.{Float}
-use lib.ListN.{length, take, drop, replicate, length-replicate}
+use lib.ListN.{length, take, drop, replicate, length-replicate, length-map}
 use Rattle.math.specs.Numerals.{nought}
 use Rattle.sizes.specs.Sizes.{InLimits, historyNeeded}
 use Rattle.timeline.specs.Numbers.{Called}
@@ -99,8 +99,7 @@ module _ (row : QualityMapping) (xs : List Float) where
   calls-given h (a ∷ more) = ap (λ (l : List (ℕ × List Float)). a ∷ l) (calls-given (after h (callFor h a)) more)
 
   calls-long : (h : Progress) (cut : List (ℕ × List Float)) → length (callsFor h cut) ≡ length cut
-  calls-long h [] = refl
-  calls-long h (a ∷ more) = ap suc (calls-long (after h (callFor h a)) more)
+  calls-long h cut = sym (length-map (callsFor h cut) given) ∙ ap length (calls-given h cut)
 
   -- calls with one sample and room for one output each get on
   ones-get-on : (h : Progress) (k : ℕ) → AllGetOn (callsFor h (replicate k one))

@@ -3,7 +3,7 @@
 use mathlib.Core.Path.{_≡_, refl, sym, _∙_, ap}
 use mathlib.Core.Bool.{true}
 use mathlib.Core.List.{List, [], _∷_, _++_, append-nil}
-use Prim.Native.Nat.{ℕ, _+_, _/_}
+use Prim.Native.Nat.{ℕ, _/_}
 use native.Mathlib.Nat.{add-zero, zero-add}
 use native.Mathlib.Omega.{arith}
 use lib.Ieee.{Float}
@@ -34,7 +34,7 @@ use Rattle.judge.proofs.Judged.{ProcessAccepted}
 use Rattle.update.specs.Updated.{withSetting, updatedCoefficients}
 use Rattle.process.specs.Process.{placeIn, played, playedOutput}
 use Rattle.process.proofs.Processes.{played-length}
-use Rattle.resampler.specs.Answers.{Told, told, refused, accepted, byVerdict}
+use Rattle.resampler.specs.Answers.{told, refused, accepted, byVerdict}
 use Rattle.resampler.specs.Entries.{playedTold, processTold, processHistory, processOutput}
 use Rattle.resampler.specs.Contracts.{SetsRate}
 use Rattle.pinned.specs.Pinned.{firstState}
@@ -42,7 +42,7 @@ use Rattle.pinned.proofs.First.{new-accepted, first-rate, first-history, first-
 use Rattle.pinned.proofs.Verdicts.{cases}
 use Rattle.pinned.proofs.StillBelongs.{process-belongs}
 use Rattle.pinned.proofs.Untouched.{rate-keeps-excess, process-keeps-excess}
-use Rattle.recording.specs.Recording.{Call, Recording, Progress, settingFor, closed, opened, after, afterAll, finished, offered, Follows, AllFollow, MadeUnder}
+use Rattle.recording.specs.Recording.{Call, Recording, Progress, settingFor, closed, opened, afterTold, after, afterAll, finished, offered, Follows, AllFollow, MadeUnder}
 
 -- ---- a recording in `timeline`'s words
 module _ (row : QualityMapping) (r : Recording) where
@@ -83,31 +83,19 @@ pub record Reached (row : QualityMapping) (r : Recording) (h : Progress) : Type 
 
 -- ---- one call more
 module _ (h : Progress) where
-  -- what a call told and left, put after what was done
-  abbrev then : Told → List Float → List Float → Progress
-  then t mem out =
-      record {
-        state = t .state;
-        mem = mem;
-        coefs = h .coefs;
-        consumed = h .consumed + t .consumed;
-        written = h .written + t .written;
-        outputs = h .outputs ++ take (t .written) out;
-      }
-
   -- a refused call leaves all as it was
-  then-refused : (f : Refusal) (out : List Float) → then (refused f (h .state)) (h .mem) out ≡ h
-  then-refused f out = rw (add-zero (h .consumed), add-zero (h .written), append-nil (h .outputs))
+  after-refused : (f : Refusal) (out : List Float) → afterTold h (refused f (h .state)) (h .mem) out ≡ h
+  after-refused f out = rw (add-zero (h .consumed), add-zero (h .written), append-nil (h .outputs))
 
   -- an accepted one is one of `timeline`'s calls more
-  then-played : (inn : ℕ) (out : List Float) (p : Played Called Float) → length (p .out) ≡ p .numbers .turn .written
-      → done (then (playedTold (h .state) inn (length out) (p .numbers)) (p .mem) (playedOutput p out)) ≡ playThen callThen (done h) p
-  then-played inn out p e =
+  after-played : (inn : ℕ) (out : List Float) (p : Played Called Float) → length (p .out) ≡ p .numbers .turn .written
+      → done (afterTold h (playedTold (h .state) inn (length out) (p .numbers)) (p .mem) (playedOutput p out)) ≡ playThen callThen (done h) p
+  after-played inn out p e =
       let k = p .numbers .turn .written in
       let takes : take k (playedOutput p out) ≡ p .out = take-front out (p .out) k (omega arith) ∙ take-all k (p .out) (omega arith) in
-      rw takes
+      ap (λ (l : List Float). record { numbers = callThen (done h .numbers) (p .numbers); out = h .outputs ++ l; mem = p .mem }) takes
 
-module _ (row : QualityMapping) (sane : Sane row) (r : Recording) (h : Progress) (g : Reached row r h) (c : Call) where
+module _ (row : QualityMapping) (r : Recording) (h : Progress) (c : Call) where
   abbrev input : List Float
   input = offered (closed row r) h c
 
@@ -130,58 +118,60 @@ module _ (row : QualityMapping) (sane : Sane row) (r : Recording) (h : Progress)
   abbrev pub theirs : Played Called Float
   theirs = playCall (weighing row r) (rateFor row r) (h .state .«magic_samples») input room (placeIn (h .state)) (h .mem)
 
-  -- they are the same: the setting, alloc and the coefficients did not change
-  ours-is : ours ≡ theirs
+  -- what each verdict leads to
+  abbrev leads : Verdict → Progress
+  leads v =
+      afterTold h (byVerdict v (λ f. refused f (h .state)) (playedTold (h .state) (length input) room (ours .numbers)))
+      (byVerdict v (λ f. h .mem) (ours .mem)) (byVerdict v (λ f. c .out) (playedOutput ours (c .out)))
+
+  module _ (p : Follows row (closed row r) h c) where
+    by-verdict : after h c ≡ leads judged
+    unfolding processTold processHistory processOutput
+    by-verdict = rw (p .tells, p .history, p .output)
+
+    -- a refused call changes nothing
+    pub refused-stays : (f : Refusal) → judged ≡ Refuse f → after h c ≡ h
+    refused-stays f v = by-verdict ∙ rw v (after-refused h f (c .out))
+
+    pub refused-output : (f : Refusal) → judged ≡ Refuse f → c .out' ≡ c .out
+    unfolding processOutput
+    refused-output f v = p .output ∙ rw v
+
+module _ (row : QualityMapping) (sane : Sane row) (r : Recording) (h : Progress) (g : Reached row r h) (c : Call) where
+  -- the two calls are the same: the setting, alloc and the coefficients did not change
+  ours-is : ours row r h c ≡ theirs row r h c
   ours-is =
       let call : Setting → ℕ → List Float → Played Called Float =
-      λ s alloc coefs. playCall (weighOf s coefs) (rateWith s alloc) (h .state .«magic_samples») input room (placeIn (h .state)) (h .mem) in
+      λ s alloc coefs. playCall (weighOf s coefs) (rateWith s alloc) (h .state .«magic_samples») (input row r h c) (room row r h c) (placeIn (h .state)) (h .mem) in
       ap (λ (s : Setting). call s (h .state .«mem_alloc_size») (h .coefs)) (g .setting)
       ∙ ap (λ (alloc : ℕ). call (settingFor row r) alloc (h .coefs)) (g .alloc)
       ∙ ap (call (settingFor row r) (rateFor row r .alloc)) (g .coefs)
 
-  -- what each verdict leads to
-  abbrev leads : Verdict → Progress
-  leads v =
-      then h (byVerdict v (λ f. refused f (h .state)) (playedTold (h .state) (length input) room (ours .numbers)))
-      (byVerdict v (λ f. h .mem) (ours .mem)) (byVerdict v (λ f. c .out) (playedOutput ours (c .out)))
-
-  by-verdict : Follows row (closed row r) h c → after h c ≡ leads judged
-  unfolding processTold processHistory processOutput
-  by-verdict p = rw (p .tells, p .history, p .output)
-
-  -- a refused call changes nothing
-  pub refused-stays : (f : Refusal) → judged ≡ Refuse f → Follows row (closed row r) h c → after h c ≡ h
-  refused-stays f v p = by-verdict p ∙ rw v (then-refused h f (c .out))
-
-  pub refused-output : (f : Refusal) → judged ≡ Refuse f → Follows row (closed row r) h c → c .out' ≡ c .out
-  unfolding processOutput
-  refused-output f v p = p .output ∙ rw v
-
-  -- an accepted one is one of `timeline`'s more
-  leads-on : done (leads Accept) ≡ playThen callThen (done h) theirs
+  -- so an accepted call is one of `timeline`'s more
+  leads-on : done (leads row r h c Accept) ≡ playThen callThen (done h) (theirs row r h c)
   leads-on =
-      then-played h (length input) (c .out) ours (played-length (h .state) (h .mem) (h .coefs) input room)
+      after-played h (length (input row r h c)) (c .out) (ours row r h c) (played-length (h .state) (h .mem) (h .coefs) (input row r h c) (room row r h c))
       ∙ ap (playThen callThen (done h)) ours-is
 
-  pub accepted-done : judged ≡ Accept → Follows row (closed row r) h c → done (after h c) ≡ playThen callThen (done h) theirs
-  accepted-done v p = ap done (by-verdict p) ∙ rw v leads-on
+  pub accepted-done : judged row r h c ≡ Accept → Follows row (closed row r) h c → done (after h c) ≡ playThen callThen (done h) (theirs row r h c)
+  accepted-done v p = ap done (by-verdict row r h c p) ∙ rw v leads-on
 
   -- the state it hands back belongs together, and the history keeps its length
-  still-belongs : judged ≡ Accept → belongsTogether row (leads Accept .state) ≡ true
+  still-belongs : judged row r h c ≡ Accept → belongsTogether row (leads row r h c Accept .state) ≡ true
   unfolding processTold
-  still-belongs v = (rw v at (process-belongs row sane (h .state) (h .mem) (h .coefs) input (c .out))) refl
+  still-belongs v = (rw v at (process-belongs row sane (h .state) (h .mem) (h .coefs) (input row r h c) (c .out))) refl
 
-  still-long : judged ≡ Accept → length (leads Accept .mem) ≡ length (h .mem)
+  still-long : judged row r h c ≡ Accept → length (leads row r h c Accept .mem) ≡ length (h .mem)
   unfolding processHistory
-  still-long v = rw v at (process-keeps-excess row sane (h .state) (h .mem) (h .coefs) input (c .out) .long)
+  still-long v = rw v at (process-keeps-excess row sane (h .state) (h .mem) (h .coefs) (input row r h c) (c .out) .long)
 
-  accepted-reaches : judged ≡ Accept → Reached row r (leads Accept)
+  accepted-reaches : judged row r h c ≡ Accept → Reached row r (leads row r h c Accept)
   accepted-reaches v =
       record {
-        offers = g .offers ++ (offer ∷ []);
+        offers = g .offers ++ (offer row r h c ∷ []);
         same =
-            play-calls-last (weighing row r) (rateFor row r) (closed row r) (g .offers) offer _
-            ∙ ap (playOneMore (weighing row r) (rateFor row r) (closed row r) offer) (g .same)
+            play-calls-last (weighing row r) (rateFor row r) (closed row r) (g .offers) (offer row r h c) _
+            ∙ ap (playOneMore (weighing row r) (rateFor row r) (closed row r) (offer row r h c)) (g .same)
             ∙ sym leads-on;
         fits =
             record {
@@ -198,7 +188,8 @@ module _ (row : QualityMapping) (sane : Sane row) (r : Recording) (h : Progress)
   -- either way the recording stands where one may stand
   pub one-more-reached : Follows row (closed row r) h c → Reached row r (after h c)
   one-more-reached p =
-      rw (by-verdict p) (cases (λ (v : Verdict). Reached row r (leads v)) judged (λ f. rw (then-refused h f (c .out)) g) accepted-reaches)
+      rw (by-verdict row r h c p)
+      (cases (λ (v : Verdict). Reached row r (leads row r h c v)) (judged row r h c) (λ f. rw (after-refused h f (c .out)) g) accepted-reaches)
 
 -- ---- the first
 module _ (row : QualityMapping) (sane : Sane row) (r : Recording) (m : MadeUnder row r) where

@@ -27,7 +27,7 @@ use Rattle.judge.specs.declared.Verdict.the-variants.{Accept}
 use Rattle.process.specs.Process.{placeIn}
 use Rattle.resampler.specs.Answers.{Told, refused, byVerdict}
 use Rattle.resampler.specs.Entries.{processTold}
-use Rattle.pinned.proofs.First.{by-input, call-accepted}
+use Rattle.pinned.proofs.Calls.{by-input, call-accepted}
 use Rattle.pinned.proofs.Verdicts.{refused-by}
 use Rattle.recording.specs.Recording.{Call, Recording, Progress, closed, opened, after, afterAll, finished, offered, Follows, AllFollow, MadeUnder}
 use Rattle.recording.specs.Demand3.{M, toRead, AllRead, total, NextCall, OffersAll, GetsOn, AllGetOn}
@@ -48,8 +48,8 @@ module _ (row : QualityMapping) (sane : Sane row) (r : Recording) (m : MadeUnder
       (length-drop (h .consumed) (closed row r) ∙ ap (λ (k : ℕ). k - h .consumed) (length-closed nought (rateFor row r) (r .samples)))
 
   -- where it is accepted, its numbers are those of one offer more
-  numbers-after : judged row sane r h g c ≡ Accept
-      → done (after h c) .numbers ≡ oneMore (rateFor row r) (toRead row r) (offer row sane r h g c) (done h .numbers)
+  numbers-after : judged row r h c ≡ Accept
+      → done (after h c) .numbers ≡ oneMore (rateFor row r) (toRead row r) (offer row r h c) (done h .numbers)
   numbers-after v =
       ap (λ (d : Played Called Float). d .numbers) (accepted-done row sane r h g c v p)
       ∙ ap (callThen (done h .numbers))
@@ -58,7 +58,7 @@ module _ (row : QualityMapping) (sane : Sane row) (r : Recording) (m : MadeUnder
 
   -- it is accepted where a sample is left and offered, within what one call takes
   is-accepted : 0 < c .offers → h .consumed < toRead row r → min (c .offers) (toRead row r - h .consumed) ≤ maxCall → length (c .out) ≤ maxCall
-      → judged row sane r h g c ≡ Accept
+      → judged row r h c ≡ Accept
   is-accepted some left offers-to room-to =
       call-accepted row (h .state) (length (h .mem)) (length (h .coefs)) (g .fits) _ _ (omega (arith, input-length)) (omega (arith, input-length)) room-to
 
@@ -67,7 +67,7 @@ module _ (row : QualityMapping) (sane : Sane row) (r : Recording) (m : MadeUnder
   gets-on k left =
       let e = numbers-after (is-accepted (k .some) left (omega (arith, k .offers-to)) (k .room-to)) in
       let more =
-      one-more-goes-on (rateFor row r) (rate-fit row sane r m) (toRead row r) (done h .numbers) (offer row sane r h g c) (omega (arith, so-far .magic)) left (k .some) (omega (arith, k .room)) in
+      one-more-goes-on (rateFor row r) (rate-fit row sane r m) (toRead row r) (done h .numbers) (offer row r h c) (omega (arith, so-far .magic)) left (k .some) (omega (arith, k .room)) in
       omega (arith, more, ap (λ (d : Called). d .turn .consumed) e, ap (λ (d : Called). d .turn .written) e)
 
   -- everything that is left is read
@@ -76,7 +76,7 @@ module _ (row : QualityMapping) (sane : Sane row) (r : Recording) (m : MadeUnder
   reads-all all left-to room room-to = elim (below-or-not (h .consumed) (toRead row r)) [
     | inl left ↦
         (ap (λ (d : Called). d .turn .consumed) (numbers-after (is-accepted (omega arith) left (omega arith) room-to))
-        ∙ one-more-reads (rateFor row r) (rate-fit row sane r m) (M row r) (done h .numbers) (offer row sane r h g c) so-far all (rw (← total-is row r) room))
+        ∙ one-more-reads (rateFor row r) (rate-fit row sane r m) (M row r) (done h .numbers) (offer row r h c) so-far all (rw (← total-is row r) room))
     | inr none ↦ omega (arith, moved row sane r m (after h c) (one-more-reached row sane r h g c p) .consumed)
   ]
 
@@ -102,8 +102,8 @@ module _ (row : QualityMapping) (sane : Sane row) (r : Recording) (m : MadeUnder
             rw (p .tells, by-input row (h .state) (length (h .mem)) (length (h .coefs)) (g .fits) inn (length (c .out)))
             (number-by (eqb inn 0) (ltb maxCall inn || ltb maxCall (length (c .out))) (h .state) _ refl);
         refused =
-            λ e. let w = refused-by (judged row sane r h g c) (h .state) _ _ _ (rw (p .tells) at e) in
-            (refused-stays row sane r h g c (w .0) (w .1) p, refused-output row sane r h g c (w .0) (w .1) p);
+            λ e. let w = refused-by (judged row r h c) (h .state) _ _ _ (rw (p .tells) at e) in
+            (refused-stays row r h c p (w .0) (w .1), refused-output row r h c p (w .0) (w .1));
       }
 
   -- with everything offered and room enough it reads everything

@@ -49,7 +49,7 @@ module _ (row : QualityMapping) (sane : Sane row) (r : Recording) (m : MadeUnder
   pub each-call : (cs : List Call) (c : Call) (ds : List Call) → r .calls ≡ cs ++ (c ∷ ds) → NextCall row (withCalls r cs) c
   each-call cs c ds e = reading.next-call row sane (withCalls r cs) (fronts.every-front row r m cs (c ∷ ds) e) c (fronts.every-call row r m cs c ds e)
 
-  -- the first of its calls make a recording, so all of this holds after each call
+  -- its first calls, however many, make a recording, so all of this holds after each call
   pub every-front : (cs ds : List Call) → r .calls ≡ cs ++ ds → MadeUnder row (withCalls r cs)
   every-front cs ds = fronts.every-front row r m cs ds
 

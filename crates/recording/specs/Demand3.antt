@@ -42,7 +42,8 @@ module _ (row : QualityMapping) (r : Recording) where
 
   -- ---- the law
 
-  -- T samples consumed and the place reached are n/2 and num den-ths for each of k outputs: den*(T+position)+phase = den*(n/2)+k*num
+  -- the T samples consumed and the place reached add up to the first place, n/2, and num/den for each of the k outputs, all in den-ths:
+  -- den*(T+position)+phase = den*(n/2)+k*num. The phase stays below den
   pub record PositionLaw : Type 0 where
     pub law : den * (finished r .consumed + finished r .state .«last_sample») + finished r .state .«samp_frac_num» ≡ den * (n / 2) + made * num
     pub phase : finished r .state .«samp_frac_num» < den
@@ -57,7 +58,7 @@ module _ (row : QualityMapping) (r : Recording) where
   abbrev pub AllRead : Type 0
   AllRead = finished r .consumed ≡ toRead
 
-  -- M*den/num, rounded up, as the quotient (M*den+num-1)/num
+  -- M*den/num, rounded up, which is (M*den+num-1)/num, rounded down
   abbrev pub total : ℕ
   total = closedTotal (lowest (r .source) (r .target)) M
 
@@ -112,8 +113,8 @@ SameOutside row a b q r =
 
 -- ---- calls, and how all comes to be read
 
--- a call made where a recording stands gets 4 where it is offered no sample, 5 where that or the room is more than one call takes, and is accepted
--- else. Refused, it changes nothing
+-- a call made where a recording stands gets 4 where no sample is left for it or offered, else 5 where the samples offered or the room are more than one
+-- call takes, and is accepted else. Refused, it changes nothing
 pub record NextCall (row : QualityMapping) (r : Recording) (c : Call) : Type 0 where
   pub number : told (c .answer) .number
       ≡ (let inn = length (offered (closed row r) (finished r) c) in
@@ -127,7 +128,7 @@ pub record OffersAll (row : QualityMapping) (r : Recording) (c : Call) : Type 0 
   pub room : total row r < made row r + length (c .out)
   pub room-to : length (c .out) ≤ maxCall
 
--- a call is offered a sample or more, with room for an output or more, and no more of either than one call takes
+-- a call would take a sample or more, if any is left, and has room for an output or more, and no more of either than one call takes
 pub record GetsOn (c : Call) : Type 0 where
   pub some : 0 < c .offers
   pub offers-to : c .offers ≤ maxCall

@@ -12,7 +12,7 @@ use Rattle.quality.specs.declared.QualityMapping.{QualityMapping}
 use Rattle.rates.specs.Setting.{settingOf}
 use Rattle.rates.specs.declared.Setting.{Setting}
 use Rattle.state.specs.declared.ResamplerState.{ResamplerState}
-use Rattle.resampler.specs.Answers.{told}
+use Rattle.resampler.specs.Answers.{Told, told}
 use Rattle.resampler.specs.Entries.{newTold}
 use Rattle.resampler.specs.Contracts.{SetsRate, Processes}
 use Rattle.resampler.specs.declared.Answer.{Answer}
@@ -66,18 +66,21 @@ pub record Progress : Type 0 where
 abbrev pub opened : Recording → Progress
 opened r = record { state = told (r .rate-answer) .state; mem = r .mem'; coefs = r .coefs'; consumed = 0; written = 0; outputs = [] }
 
--- one call more
-abbrev pub after : Progress → Call → Progress
-after h c =
-    let t = told (c .answer) in
+-- what a call tells, and what it leaves in the history and the output, put after what was done
+abbrev pub afterTold : Progress → Told → List Float → List Float → Progress
+afterTold h t mem out =
     record {
       state = t .state;
-      mem = c .mem';
+      mem = mem;
       coefs = h .coefs;
       consumed = h .consumed + t .consumed;
       written = h .written + t .written;
-      outputs = h .outputs ++ take (t .written) (c .out');
+      outputs = h .outputs ++ take (t .written) out;
     }
+
+-- one call more
+abbrev pub after : Progress → Call → Progress
+after h c = afterTold h (told (c .answer)) (c .mem') (c .out')
 
 -- all calls of a list
 abbrev pub afterAll : Progress → List Call → Progress
@@ -101,7 +104,8 @@ abbrev pub AllFollow : QualityMapping → List Float → Progress → List Call 
 AllFollow row xs h [] = Unit {0}
 AllFollow row xs h (c ∷ cs) = Follows row xs h c × AllFollow row xs (after h c) cs
 
--- a recording was made under a quality row: the rates are in limits, the slices as long as the rates ask, and each step is what its contract ensures
+-- a recording was made under a quality row: the rates are in limits, the slices at least as long as they ask, and each step is what its contract
+-- ensures
 pub record MadeUnder (row : QualityMapping) (r : Recording) : Type 0 where
   pub source-in : InLimits (r .source)
   pub target-in : InLimits (r .target)

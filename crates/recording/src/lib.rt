@@ -27,9 +27,9 @@ pub enum Total {
     Closed(Written),
 }
 
-// How many outputs a closed recording has, worked out from its length alone. `samples` are those of the
-// recording itself, without the zeros that close it: those are read too, but add nothing here. The rates
-// are judged before the count, so a bad rate gets refusal 1 however many samples there are.
+// How many outputs a closed recording has, worked out from its length and its rates alone. `samples` are
+// those of the recording itself, without the zeros that close it: those are read too, but add nothing
+// here. The rates are judged before the count, so a bad rate gets refusal 1 however many samples there are.
 pub fn closed_total(samples: Consumed, source: u32, target: u32) -> Total
     ensures { λ r. ⌜ totalTold r ≡ closedTotalTold source target (samples .0) ⌝ }
 {

@@ -19,7 +19,7 @@ pub ceiling-is : {y : ℕ} (x k : ℕ) → 0 < y → Ceiling x y k → k ≡ upw
 ceiling-is {y} x zero h c = sym (div-eq-of-lt-le y (omega arith) (omega (arith, c .enough)))
 ceiling-is {y} x (suc k) h c = sym (div-eq-of-lt-le y (omega (arith, c .least k (omega arith))) (omega (arith, c .enough)))
 
-pub upwards-enough : (x y : ℕ) → 0 < y → x ≤ upwards x y * y
+upwards-enough : (x y : ℕ) → 0 < y → x ≤ upwards x y * y
 upwards-enough x y h = omega (arith, div-add-mod' (x + y - 1) y, mod-lt (x + y - 1) h)
 
 -- what lies below position x, with a phase below den, lies below den * x
@@ -67,7 +67,7 @@ module _ (r : Rate) (fit : Fit r) where
       let all : t .consumed ≡ i = omega arith in
       omega (arith, fit .alloc, rounds-read most (suc inn - t .consumed) (suc room - t .written) (t .place) (omega (arith, fit .alloc)) (omega arith))
 
-  pub plain-call-reads : (inn room : ℕ) (p : Place) → call r 0 inn room p .turn .written < room → call r 0 inn room p .turn .consumed ≡ inn
+  plain-call-reads : (inn room : ℕ) (p : Place) → call r 0 inn room p .turn .written < room → call r 0 inn room p .turn .consumed ≡ inn
   plain-call-reads inn room p h =
       let e = call-plain r inn room p in
       let w : call r 0 inn room p .turn .written ≡ rounds r inn room p .written = ap (λ (c : Called). c .turn .written) e in

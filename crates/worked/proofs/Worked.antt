@@ -27,7 +27,8 @@ use Rattle.process.proofs.Processes.{played-numbers}
 use Rattle.resampler.specs.Answers.{Told, accepted}
 use Rattle.resampler.specs.Entries.{newTold, rateTold, playedTold, processTold}
 use Rattle.pinned.specs.Pinned.{firstState}
-use Rattle.pinned.proofs.First.{new-accepted, short-gets-2, first-fits, first-rate, call-accepted}
+use Rattle.pinned.proofs.First.{new-accepted, short-gets-2, first-fits, first-rate}
+use Rattle.pinned.proofs.Calls.{call-accepted}
 use Rattle.recording.specs.Totals.{closedTotalTold}
 use Rattle.worked.specs.Worked.{columns, Line, CalledC, Worked, ClosedTotals, RateGets, OutsideLimits, HistoryOfD}
 
