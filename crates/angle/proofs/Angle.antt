@@ -52,9 +52,9 @@ eighty-one : HasValue (round binary32 false 81 1) false 81 1
 unfolding round
 eighty-one = (refl, refl)
 
-reach : HasValue (round binary64 false sineReach 1) false sineReach 1
+reach-held : HasValue (round binary64 false sineReach 1) false sineReach 1
 unfolding round
-reach = (refl, refl)
+reach-held = (refl, refl)
 
 counted : (n : ℕ) → n ≤ 192000 → HasValue (asF32 n) false n 1
 unfolding ofInt
@@ -64,12 +64,12 @@ counted n h = round-whole binary32 false n (le-trans h (lit≤ tt))
 in-reach : (cutoff x : Float) → AtMost (magnitude (x *ᶠ cutoff)) 81 1 → le (magnitude (angleAt cutoff x)) (asF64 sineReach) ≡ true
 unfolding ofInt
 in-reach cutoff x h =
-    is-le (magnitude (angleAt cutoff x)) (asF64 sineReach) sineReach 1 (lit< tt) reach
-    (mul-at-most binary64 C (x *ᶠ cutoff) 22 7 81 1 sineReach 1 (lit< tt) (lit< tt) (lit< tt) reach half-turn h (lit≤ tt))
+    is-le (magnitude (angleAt cutoff x)) (asF64 sineReach) sineReach 1 (lit< tt) reach-held
+    (mul-at-most binary64 C (x *ᶠ cutoff) 22 7 81 1 sineReach 1 (lit< tt) (lit< tt) (lit< tt) reach-held half-turn h (lit≤ tt))
 
 -- ---- the product, where the cutoff is at most p / q and n/2 times that at most 81
-product : (x cutoff : Float) (n p q : ℕ) → 0 < q → AtMost (magnitude x) n 2 → AtMost (magnitude cutoff) p q → n * p * 1 ≤ 81 * (2 * q) → AtMost (magnitude (x *ᶠ cutoff)) 81 1
-product x cutoff n p q some h k l = mul-at-most binary32 x cutoff n 2 p q 81 1 (lit< tt) some (lit< tt) eighty-one h k l
+times-cutoff : (x cutoff : Float) (n p q : ℕ) → 0 < q → AtMost (magnitude x) n 2 → AtMost (magnitude cutoff) p q → n * p * 1 ≤ 81 * (2 * q) → AtMost (magnitude (x *ᶠ cutoff)) 81 1
+times-cutoff x cutoff n p q some h k l = mul-at-most binary32 x cutoff n 2 p q 81 1 (lit< tt) some (lit< tt) eighty-one h k l
 
 -- with w * 2 ^ -20 at most 31 den / (32 num), and n at most 167 num / den: n/2 times the next multiple of 2 ^ -20 is at most 81. 1015808 is 31 * 2 ^ 15, and 169639936 is 167 times that
 times-le : (n w num den : ℕ) → 0 < num → w * num ≤ 1015808 * den → n * den ≤ 167 * num → n ≤ 7680 → n * (w + 1) * 1 ≤ 81 * (2 * 2 ^ 20)
@@ -87,7 +87,7 @@ module _ (num den : ℕ) (r : RatioInLimits num den) where
   -- ---- num at most den
   kept : num ≤ den → (x : Float) → AtMost (magnitude x) n 2 → AtMost (magnitude (x *ᶠ cutoff)) 81 1
   unfolding house cutoffOf
-  kept h x a = product x cutoff n 31 32 (lit< tt) a (rw (le-ltb den num h) bandwidth-up) (omega (arith, length-up house num den h))
+  kept h x a = times-cutoff x cutoff n 31 32 (lit< tt) a (rw (le-ltb den num h) bandwidth-up) (omega (arith, length-up house num den h))
 
   -- ---- num above den
   module _ (above : den < num) where
@@ -123,7 +123,7 @@ module _ (num den : ℕ) (r : RatioInLimits num den) where
 
     lowered : n ≤ 7680 → (x : Float) → AtMost (magnitude x) n 2 → AtMost (magnitude (x *ᶠ cutoff)) 81 1
     lowered n-to x h =
-        product x cutoff n steps (2 ^ 20) (lit< tt) h cutoff-at-most
+        times-cutoff x cutoff n steps (2 ^ 20) (lit< tt) h cutoff-at-most
         (times-le n (1015808 * den / num) num den (r .num-from) (div-mul-le-self (1015808 * den) num) length-le n-to)
 
   -- ---- either way

@@ -38,6 +38,7 @@ is-eq a b h = go (compare a b) (subst (λ (x : ℕ). T (eqb a x)) h (eqb-refl a)
     go Ordering·eq e = refl
     go Ordering·gt e = absurd e
 
+-- a < b, or not
 pub below-or-not : (a b : ℕ) → (a < b) ⊎ (b ≤ a)
 below-or-not a b = go (decLt a b)
   where
@@ -46,13 +47,13 @@ below-or-not a b = go (decLt a b)
     go (no h) = inr (omega arith)
 
 -- ---- the three ways
-pub under-half : (a b : ℕ) → a % b * 2 < b → a / b ≡ closest a b
+under-half : (a b : ℕ) → a % b * 2 < b → a / b ≡ closest a b
 under-half a b h = sym (ap (nearest (a / b)) (is-lt (a % b * 2) b h))
 
-pub over-half : (a b : ℕ) → b < a % b * 2 → suc (a / b) ≡ closest a b
+over-half : (a b : ℕ) → b < a % b * 2 → suc (a / b) ≡ closest a b
 over-half a b h = sym (ap (nearest (a / b)) (is-gt (a % b * 2) b h))
 
-pub half : (a b : ℕ) → a % b * 2 ≡ b → a / b + a / b % 2 ≡ closest a b
+half : (a b : ℕ) → a % b * 2 ≡ b → a / b + a / b % 2 ≡ closest a b
 half a b h = sym (ap (nearest (a / b)) (is-eq (a % b * 2) b h))
 
 -- ---- one test for the three: twice the remainder, and one more at an odd quotient

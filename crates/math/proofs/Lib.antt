@@ -1,7 +1,6 @@
 -- Laws that belong to no one function: they serve proofs here and in the crates above. Assumes nothing.
 pub mod Pick
 pub mod Closest
-pub mod Near
 pub mod Rounded
 pub mod Real
 pub mod Nan

@@ -94,7 +94,7 @@ module _ (row : QualityMapping) (source target : ℕ) where
         let v = first-verdict memLen (setting .coefs) (omega arith) (omega arith) in
         rated-belongs row (firstState row source target) sane
         (updated-rated row sane (freshState target) source memLen (setting .coefs)
-        (updates.ready row sane (freshState target) source memLen (setting .coefs) v (λ z. omega (arith, hs .low))))
+        (updates.rate-ready row sane (freshState target) source memLen (setting .coefs) v (λ z. omega (arith, hs .low))))
 
     -- slices that are long enough for the rate are long enough for a call
     pub first-fits : Sane row → (memLen coefsLen : ℕ) → historyNeeded (settingOf row source target .«filt_len») ≤ memLen

@@ -85,7 +85,7 @@ magic-none c none z = rw (eq-eqb (c .started) 0 z) (none z)
 
 module _ (row : QualityMapping) (sane : Sane row) (s : ResamplerState) where
   -- so it is one with a rate, whose numbers belong together
-  pub updated-rated : (source mem coefs : ℕ) → updates.Ready row s source mem coefs → Rated row (updatedState s source (settingOf row source (s .target)))
+  pub updated-rated : (source mem coefs : ℕ) → updates.RateReady row s source mem coefs → Rated row (updatedState s source (settingOf row source (s .target)))
   unfolding withSetting
   updated-rated source mem coefs k =
       let st = k .standing in
@@ -113,7 +113,7 @@ module _ (row : QualityMapping) (sane : Sane row) (s : ResamplerState) where
       (rate-accepts row s source (length mem) (length coefs) v .belongs)
       (λ other.
       rated-belongs row (updatedState s source (settingOf row source (s .target))) sane
-      (updated-rated source (length mem) (length coefs) (updates.ready row sane s source (length mem) (length coefs) v other))))
+      (updated-rated source (length mem) (length coefs) (updates.rate-ready row sane s source (length mem) (length coefs) v other))))
 
   -- ---- process
   started-to : (t : Bool) → s .started ≤ 1 → cond t 1 (s .started) ≤ 1
@@ -144,7 +144,7 @@ module _ (row : QualityMapping) (sane : Sane row) (s : ResamplerState) where
       let c = played s coefs input (length out) mem .numbers in
       belonging-by row s (processVerdict row s (length mem) (length coefs) (length input) (length out)) _
       (λ v e.
-      let r = processes.ready row sane s (length mem) (length coefs) (length input) (length out) v .rated in
+      let r = processes.call-ready row sane s (length mem) (length coefs) (length input) (length out) v .rated in
       rated-belongs row (playedState s (length input) (length out) c) sane
       (rated-moved row s r
       (called-moves (length input) (length out) r c (processes.played-numbers s mem coefs input (length out)))))

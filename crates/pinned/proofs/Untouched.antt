@@ -91,8 +91,8 @@ module _ (row : QualityMapping) (sane : Sane row) (s : ResamplerState) where
     abbrev judgedRate : Verdict
     judgedRate = rateVerdict row s source (length mem) (length coefs)
 
-    abbrev ready : judgedRate ≡ Accept → (s .source ≡ source → ⊥) → updates.Ready row s source (length mem) (length coefs)
-    ready = updates.ready row sane s source (length mem) (length coefs)
+    abbrev ready : judgedRate ≡ Accept → (s .source ≡ source → ⊥) → updates.RateReady row s source (length mem) (length coefs)
+    ready = updates.rate-ready row sane s source (length mem) (length coefs)
 
     -- the same rate again leaves a slice as it was
     kept-by-rate : (used : Told → ℕ) (before after : List Float)
@@ -137,7 +137,7 @@ module _ (row : QualityMapping) (sane : Sane row) (s : ResamplerState) (mem coef
 
   played-keeps : judgedCall ≡ Accept → KeptFrom (rateIn s .alloc) mem (done .mem)
   played-keeps v =
-      let k = processes.ready row sane s (length mem) (length coefs) (length input) (length out) v in
+      let k = processes.call-ready row sane s (length mem) (length coefs) (length input) (length out) v in
       history-of-a-call (weighOf (settingIn s) coefs) (rateIn s) (s .«magic_samples») input (length out) (placeIn s) mem
       (rate-fits (s .«mem_alloc_size») sane (k .limits) (k .rated .alloc-from))
       (process-accepts row s (length mem) (length coefs) (length input) (length out) v .history)
@@ -151,7 +151,7 @@ module _ (row : QualityMapping) (sane : Sane row) (s : ResamplerState) (mem coef
 
   played-past : judgedCall ≡ Accept → PastWritten (playedTold s (length input) (length out) (done .numbers)) input out (playedOutput done out)
   played-past v =
-      let r = processes.ready row sane s (length mem) (length coefs) (length input) (length out) v .rated in
+      let r = processes.call-ready row sane s (length mem) (length coefs) (length input) (length out) v .rated in
       let law = processes.call-law row sane s r (length input) (length out) in
       let numbers = processes.played-numbers s mem coefs input (length out) in
       let consumed : done .numbers .turn .consumed ≤ length input = rw numbers (law .consumed) in

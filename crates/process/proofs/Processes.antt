@@ -103,15 +103,15 @@ module _ (s : ResamplerState) (mem coefs input out : List Float) {r : made.Calle
   }
 
 -- what an accepted call knows
-pub record Ready (row : QualityMapping) (s : ResamplerState) (mem coefs : ℕ) : Type 0 where
+pub record CallReady (row : QualityMapping) (s : ResamplerState) (mem coefs : ℕ) : Type 0 where
   pub sane : Sane row
   pub rated : Rated row s
   pub limits : Limits row (settingIn s)
   pub fits : CallFits (settingIn s) (s .«mem_alloc_size») (s .«magic_samples») (placeIn s) mem coefs
 
-pub ready : (row : QualityMapping) → Sane row → (s : ResamplerState) (mem coefs inn room : ℕ) → processVerdict row s mem coefs inn room ≡ Accept
-    → Ready row s mem coefs
-ready row sane s mem coefs inn room e =
+pub call-ready : (row : QualityMapping) → Sane row → (s : ResamplerState) (mem coefs inn room : ℕ) → processVerdict row s mem coefs inn room ≡ Accept
+    → CallReady row s mem coefs
+call-ready row sane s mem coefs inn room e =
     let v = process-accepts row s mem coefs inn room e in
     let r = rated row s (v .belongs) (v .has-rate) in
     record {
@@ -129,7 +129,7 @@ pub record Ended (s : ResamplerState) (c : Called) : Type 0 where
   pub magic-held : c .magic ≤ s .«mem_alloc_size»
 
 pub call-ends : {row : QualityMapping} (s : ResamplerState) (mem coefs input out : List Float) {r : made.Called} {left after : List Float}
-    → Ready row s (length mem) (length coefs)
+    → CallReady row s (length mem) (length coefs)
     → Wrote (played s coefs input (length out) mem) (calledOf r) left out after → Ended s (calledOf r)
 call-ends {row} s mem coefs input out k w =
     let law = call-law row (k .sane) s (k .rated) (length input) (length out) in

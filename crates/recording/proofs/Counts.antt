@@ -20,10 +20,10 @@ use Rattle.quality.specs.Quality.{Sane}
 use Rattle.quality.specs.declared.QualityMapping.{QualityMapping}
 use Rattle.rates.specs.Setting.{settingAt, settingOf}
 use Rattle.rates.proofs.Limits.{limits, rate-fits}
-use Rattle.recording.specs.Recording.{Recording, Progress, closed, finished, MadeUnder}
+use Rattle.recording.specs.Recording.{Recording, Progress, rateFor, wholeInput, finished, MadeUnder}
 use Rattle.recording.specs.Demand3.{num, den, M, made, PositionLaw, toRead, AllRead, total, Counted}
 use Rattle.recording.specs.Totals.{countedTotal, maxSamples, closedTotalTold}
-use Rattle.recording.proofs.Reached.{rateFor, weighing, byOffers, done, Reached, reached}
+use Rattle.recording.proofs.Reached.{weighing, byOffers, done, Reached, reached}
 
 -- the total, by the numbers of the setting
 pub total-is : (row : QualityMapping) (r : Recording) → total row r ≡ upwards (M row r * den row r) (num row r)
@@ -36,23 +36,23 @@ module _ (row : QualityMapping) (sane : Sane row) (r : Recording) (m : MadeUnder
   rate-fit = rate-fits (rateFor row r .alloc) sane (limits row sane (r .source) (r .target) (m .source-in) (m .target-in)) (omega arith)
 
   -- the numbers so far are those that the offers give
-  numbers-are : (h : Progress) (g : Reached row r h) → recorded (rateFor row r) (length (closed row r)) (g .offers) ≡ done h .numbers
+  numbers-are : (h : Progress) (g : Reached row r h) → recorded (rateFor row r) (length (wholeInput row r)) (g .offers) ≡ done h .numbers
   numbers-are h g =
-      sym (numbers-of-a-recording (weighing row r) nought (rateFor row r) (drop (rateFor row r .alloc) (r .mem)) (closed row r) (g .offers))
+      sym (numbers-of-a-recording (weighing row r) nought (rateFor row r) (drop (rateFor row r .alloc) (r .mem)) (wholeInput row r) (g .offers))
       ∙ ap (λ (p : Played Called Float). p .numbers) (g .same)
 
   -- what the calls so far did to the numbers
   pub moved : (h : Progress) → Reached row r h → Moved (rateFor row r) 0 (toRead row r) (fresh (rateFor row r)) (done h .numbers)
   moved h g =
       rw (numbers-are h g, length-closed nought (rateFor row r) (r .samples)) at
-      (recorded-moves (rateFor row r) rate-fit (length (closed row r)) (g .offers))
+      (recorded-moves (rateFor row r) rate-fit (length (wholeInput row r)) (g .offers))
 
   -- there are as many outputs as the counts say
   pub outputs-many : length (finished r .outputs) ≡ made row r
   outputs-many =
       let g = reached row sane r m in
       ap (λ (p : Played Called Float). length (p .out)) (sym (g .same))
-      ∙ length-of-a-recording (weighing row r) nought (rateFor row r) (drop (rateFor row r .alloc) (r .mem)) (closed row r) (g .offers) rate-fit
+      ∙ length-of-a-recording (weighing row r) nought (rateFor row r) (drop (rateFor row r .alloc) (r .mem)) (wholeInput row r) (g .offers) rate-fit
       ∙ ap (λ (c : Called). c .turn .written) (numbers-are (finished r) g)
 
   -- the law
@@ -60,7 +60,7 @@ module _ (row : QualityMapping) (sane : Sane row) (r : Recording) (m : MadeUnder
   law =
       let g = reached row sane r m in
       let l : laws.Law (rateFor row r) (done (finished r) .numbers .turn) =
-      rw (numbers-are (finished r) g) at (law-of-a-recording (rateFor row r) rate-fit (length (closed row r)) (g .offers)) in
+      rw (numbers-are (finished r) g) at (law-of-a-recording (rateFor row r) rate-fit (length (wholeInput row r)) (g .offers)) in
       record { law = omega (arith, l .law); phase = l .phase }
 
   -- the count, once all is read
@@ -68,7 +68,7 @@ module _ (row : QualityMapping) (sane : Sane row) (r : Recording) (m : MadeUnder
   count all =
       let g = reached row sane r m in
       let excess = drop (rateFor row r .alloc) (r .mem) in
-      let read : laws.AllRead (closed row r) (byOffers row r (g .offers)) =
+      let read : laws.AllRead (wholeInput row r) (byOffers row r (g .offers)) =
       ap (λ (p : Played Called Float). p .numbers .turn .consumed) (g .same) ∙ all ∙ sym (length-closed nought (rateFor row r) (r .samples)) in
       let many : length (byOffers row r (g .offers) .out) ≡ made row r = ap (λ (p : Played Called Float). length (p .out)) (g .same) ∙ outputs-many in
       record {

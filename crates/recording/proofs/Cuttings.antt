@@ -25,7 +25,7 @@ use Rattle.resampler.specs.declared.Answer.{Answer}
 use Rattle.resampler.specs.declared.Answer.the-variants.{Refused, Accepted}
 use Rattle.pinned.specs.Pinned.{firstState}
 use Rattle.pinned.proofs.First.{new-accepted, first-rate}
-use Rattle.recording.specs.Recording.{Call, Recording, Progress, closed, opened, after, Follows, AllFollow, withCalls}
+use Rattle.recording.specs.Recording.{Call, Recording, Progress, wholeInput, opened, after, Follows, AllFollow, withCalls}
 use Rattle.recording.specs.Demand3.{toRead, AllRead, total, AllGetOn, given, CutAs}
 use Rattle.recording.proofs.Reading.{read-at-last}
 
@@ -127,7 +127,7 @@ module _ (row : QualityMapping) (source target : ℕ) (samples mem coefs : List 
 
   -- and with the calls that are given this
   abbrev recordingFor : List (ℕ × List Float) → Recording
-  recordingFor cut = withCalls begun (callsFor row (closed row begun) (opened begun) cut)
+  recordingFor cut = withCalls begun (callsFor row (wholeInput row begun) (opened begun) cut)
 
   module _ (hs : InLimits source) (ht : InLimits target) (m : historyNeeded (settingOf row source target .«filt_len») ≤ length mem)
       (k : settingOf row source target .coefs ≤ length coefs) where
@@ -143,14 +143,14 @@ module _ (row : QualityMapping) (source target : ℕ) (samples mem coefs : List 
                 coefficients = k;
                 new = sym (new-accepted target ht);
                 rate = record { tells = sym (first-rate row source target hs ht mem coefs m k); history = refl; coefficients = refl };
-                calls = calls-follow row (closed row begun) (opened begun) cut;
+                calls = calls-follow row (wholeInput row begun) (opened begun) cut;
               };
           source-is = refl;
           target-is = refl;
           samples-are = refl;
           mem-is = refl;
           coefs-are = refl;
-          cut-is = calls-given row (closed row begun) (opened begun) cut;
+          cut-is = calls-given row (wholeInput row begun) (opened begun) cut;
         }
 
     -- every cutting
@@ -162,5 +162,5 @@ module _ (row : QualityMapping) (source target : ℕ) (samples mem coefs : List 
     can-be-read sane =
         let calls = toRead row begun + total row begun in
         let cut = replicate calls one in
-        let long : length (recordingFor cut .calls) ≡ calls = calls-long row (closed row begun) (opened begun) cut ∙ length-replicate calls one in
-        (cut, recordingFor cut, cut-as cut, read-at-last row sane (recordingFor cut) (cut-as cut .made-under) (ones-get-on row (closed row begun) (opened begun) calls) (omega (arith, long)))
+        let long : length (recordingFor cut .calls) ≡ calls = calls-long row (wholeInput row begun) (opened begun) cut ∙ length-replicate calls one in
+        (cut, recordingFor cut, cut-as cut, read-at-last row sane (recordingFor cut) (cut-as cut .made-under) (ones-get-on row (wholeInput row begun) (opened begun) calls) (omega (arith, long)))

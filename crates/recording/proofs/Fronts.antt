@@ -3,7 +3,7 @@ use mathlib.Core.Path.{_≡_}
 use mathlib.Core.List.{List, [], _∷_, _++_}
 use lib.Ieee.{Float}
 use Rattle.quality.specs.declared.QualityMapping.{QualityMapping}
-use Rattle.recording.specs.Recording.{Call, Recording, Progress, closed, opened, after, afterAll, finished, Follows, AllFollow, MadeUnder, withCalls}
+use Rattle.recording.specs.Recording.{Call, Recording, Progress, wholeInput, opened, after, afterAll, finished, Follows, AllFollow, MadeUnder, withCalls}
 
 module _ (row : QualityMapping) (xs : List Float) where
   -- the calls of the front follow
@@ -26,8 +26,8 @@ module _ (row : QualityMapping) (r : Recording) (m : MadeUnder row r) (cs : List
         coefficients = m .coefficients;
         new = m .new;
         rate = m .rate;
-        calls = front-follows row (closed row r) (opened r) cs ds (rw e at (m .calls));
+        calls = front-follows row (wholeInput row r) (opened r) cs ds (rw e at (m .calls));
       }
 
-  pub every-call : (c : Call) (ds : List Call) → r .calls ≡ cs ++ (c ∷ ds) → Follows row (closed row r) (finished (withCalls r cs)) c
-  every-call c ds e = next-follows row (closed row r) (opened r) cs c ds (rw e at (m .calls))
+  pub every-call : (c : Call) (ds : List Call) → r .calls ≡ cs ++ (c ∷ ds) → Follows row (wholeInput row r) (finished (withCalls r cs)) c
+  every-call c ds e = next-follows row (wholeInput row r) (opened r) cs c ds (rw e at (m .calls))

@@ -33,9 +33,9 @@ use Rattle.kernel.proofs.Local.{step-table, step-nan}
 use Rattle.rounds.specs.Output.{phaseOf, weighOf}
 use Rattle.rounds.proofs.Phases.{reaches}
 use Rattle.rounds.proofs.Settings.{setting-playable}
-use Rattle.recording.specs.Recording.{Recording, settingFor, closed, finished, MadeUnder}
-use Rattle.recording.specs.Demand3.{num, den, n, M, made, AllRead, stream, streamPosition, outputAt, StreamOutputs, Misses, TightBound, SameSettings, SameOutside}
-use Rattle.recording.proofs.Reached.{rateFor, weighing, coefs-is, reached}
+use Rattle.recording.specs.Recording.{Recording, settingFor, rateFor, wholeInput, finished, MadeUnder}
+use Rattle.recording.specs.Demand3.{num, den, n, M, made, AllRead, wholeStream, windowStart, outputAt, StreamOutputs, Misses, TightBound, SameSettings, SameOutside}
+use Rattle.recording.proofs.Reached.{weighing, coefs-is, reached}
 use Rattle.recording.proofs.Counts.{rate-fit, moved, outputs-many, count}
 
 -- ---- one recording
@@ -71,13 +71,13 @@ module _ (row : QualityMapping) (sane : Sane row) (r : Recording) (m : MadeUnder
       let out-is = ap (λ (p : Played Called Float). p .out) (g .same) in
       let excess = drop (rateFor row r .alloc) (r .mem) in
       ap (λ (l : List Float). at l k) (sym out-is)
-      ∙ output-of-a-recording (weighing row r) nought (rateFor row r) excess (closed row r) (g .offers) (rate-fit row sane r m) nan k
+      ∙ output-of-a-recording (weighing row r) nought (rateFor row r) excess (wholeInput row r) (g .offers) (rate-fit row sane r m) nan k
       (rw (out-is, outputs-many row sane r m) h)
       ∙ by-the-table (k * num row r % den row r) _ (mod-lt (k * num row r) (rate-fit row sane r m .den))
       ∙ streamed-is row r k
 
   -- its window lies within the stream, since it was made where the position was below what is to be read
-  window-within : (k : ℕ) → k < made row r → streamPosition row r k + n row r ≤ length (stream row r)
+  window-within : (k : ℕ) → k < made row r → windowStart row r k + n row r ≤ length (wholeStream row r)
   window-within k h =
       let below = moved row sane r m (finished r) (reached row sane r m) .below k h in
       let place = ap (λ (p : Place). p .position) (ahead-fresh (rateFor row r) (rate-fit row sane r m) k) in
@@ -87,7 +87,7 @@ module _ (row : QualityMapping) (sane : Sane row) (r : Recording) (m : MadeUnder
         below,
         place,
         rate-fit row sane r m .n,
-        length-append zeros (closed row r),
+        length-append zeros (wholeInput row r),
         length-replicate (n row r - 1) nought,
         length-closed nought (rateFor row r) (r .samples),
       )
@@ -98,23 +98,23 @@ module _ (row : QualityMapping) (sane : Sane row) (r : Recording) (m : MadeUnder
   -- ---- a NaN in the window
   module _ (i : ℕ) (within : i < M row r) (e : at (r .samples) i ≡ nan) where
     -- sample i is entry n-1+i of the stream
-    entry-of : at (stream row r) (n row r - 1 + i) ≡ nan
+    entry-of : at (wholeStream row r) (n row r - 1 + i) ≡ nan
     entry-of =
-        ap (λ (k : ℕ). at (stream row r) (k + i)) (sym (length-replicate (n row r - 1) nought))
-        ∙ getD-append-add (replicate (n row r - 1) nought) (closed row r) i nan
+        ap (λ (k : ℕ). at (wholeStream row r) (k + i)) (sym (length-replicate (n row r - 1) nought))
+        ∙ getD-append-add (replicate (n row r - 1) nought) (wholeInput row r) i nan
         ∙ List·getD-append (r .samples) _ nan i within
         ∙ e
 
     -- it reaches every output whose window holds it
-    nan-reaches : (k : ℕ) → streamPosition row r k ≤ n row r - 1 + i → n row r - 1 + i < streamPosition row r k + n row r
+    nan-reaches : (k : ℕ) → windowStart row r k ≤ n row r - 1 + i → n row r - 1 + i < windowStart row r k + n row r
         → k < made row r → at (finished r .outputs) k ≡ nan
     nan-reaches k from to h =
         let s = settingFor row r in
-        let at-k = streamPosition row r k in
+        let at-k = windowStart row r k in
         let j = n row r - 1 + i - at-k in
         let place : at-k + j ≡ n row r - 1 + i = omega arith in
-        let entry : at (take (n row r) (drop at-k (stream row r))) j ≡ nan =
-        getD-take (n row r) (drop at-k (stream row r)) j nan (omega arith) ∙ getD-drop at-k (stream row r) j nan ∙ ap (at (stream row r)) place ∙ entry-of in
+        let entry : at (take (n row r) (drop at-k (wholeStream row r))) j ≡ nan =
+        getD-take (n row r) (drop at-k (wholeStream row r)) j nan (omega arith) ∙ getD-drop at-k (wholeStream row r) j nan ∙ ap (at (wholeStream row r)) place ∙ entry-of in
         output-at k h ∙ step-nan (phaseOf s (k * num row r % den row r)) (n row r) (s .oversample) j (tableOf s) _ (omega arith) entry
 
   pub tight-bound : TightBound row r

@@ -10,8 +10,7 @@ use lib.Ieee.{Float}
 use lib.ListN.{length, take, drop, replicate}
 use lib.Seq.{take-all}
 use Rattle.math.specs.Numerals.{nought}
-use Rattle.sizes.specs.Sizes.{historyNeeded}
-use Rattle.timeline.specs.Numbers.{Rate, Called, fresh}
+use Rattle.timeline.specs.Numbers.{Called, fresh}
 use Rattle.timeline.specs.Samples.{Played, playThen, playCall}
 use Rattle.timeline.specs.Recording as timeline
 use Rattle.timeline.specs.Recording.{Offer, callThen, playOneMore}
@@ -42,21 +41,17 @@ use Rattle.pinned.proofs.First.{new-accepted, first-rate, first-history, first-
 use Rattle.pinned.proofs.Verdicts.{cases}
 use Rattle.pinned.proofs.StillBelongs.{process-belongs}
 use Rattle.pinned.proofs.Untouched.{rate-keeps-excess, process-keeps-excess}
-use Rattle.recording.specs.Recording.{Call, Recording, Progress, settingFor, closed, opened, afterTold, after, afterAll, finished, offered, Follows, AllFollow, MadeUnder}
+use Rattle.recording.specs.Recording.{Call, Recording, Progress, settingFor, rateFor, wholeInput, opened, afterTold, after, afterAll, finished, offered, Follows, AllFollow, MadeUnder}
 
 -- ---- a recording in `timeline`'s words
 module _ (row : QualityMapping) (r : Recording) where
-  -- what its rates fix
-  abbrev pub rateFor : Rate
-  rateFor = rateWith (settingFor row r) (historyNeeded (settingFor row r .«filt_len»))
-
   -- one output, by the coefficients that set rate left
   abbrev pub weighing : ℕ → List Float → Float
   weighing = weighOf (settingFor row r) (r .coefs')
 
   -- the recording that a list of offers makes
   abbrev pub byOffers : List Offer → Played Called Float
-  byOffers os = timeline.recording weighing nought rateFor (drop (rateFor .alloc) (r .mem)) (closed row r) os
+  byOffers os = timeline.recording weighing nought (rateFor row r) (drop (rateFor row r .alloc) (r .mem)) (wholeInput row r) os
 
 -- what was done so far
 abbrev pub done : Progress → Played Called Float
@@ -97,7 +92,7 @@ module _ (h : Progress) where
 
 module _ (row : QualityMapping) (r : Recording) (h : Progress) (c : Call) where
   abbrev input : List Float
-  input = offered (closed row r) h c
+  input = offered (wholeInput row r) h c
 
   abbrev room : ℕ
   room = length (c .out)
@@ -124,7 +119,7 @@ module _ (row : QualityMapping) (r : Recording) (h : Progress) (c : Call) where
       afterTold h (byVerdict v (λ f. refused f (h .state)) (playedTold (h .state) (length input) room (ours .numbers)))
       (byVerdict v (λ f. h .mem) (ours .mem)) (byVerdict v (λ f. c .out) (playedOutput ours (c .out)))
 
-  module _ (p : Follows row (closed row r) h c) where
+  module _ (p : Follows row (wholeInput row r) h c) where
     by-verdict : after h c ≡ leads judged
     unfolding processTold processHistory processOutput
     by-verdict = rw (p .tells, p .history, p .output)
@@ -153,7 +148,7 @@ module _ (row : QualityMapping) (sane : Sane row) (r : Recording) (h : Progress)
       after-played h (length (input row r h c)) (c .out) (ours row r h c) (played-length (h .state) (h .mem) (h .coefs) (input row r h c) (room row r h c))
       ∙ ap (playThen callThen (done h)) ours-is
 
-  pub accepted-done : judged row r h c ≡ Accept → Follows row (closed row r) h c → done (after h c) ≡ playThen callThen (done h) (theirs row r h c)
+  pub accepted-done : judged row r h c ≡ Accept → Follows row (wholeInput row r) h c → done (after h c) ≡ playThen callThen (done h) (theirs row r h c)
   accepted-done v p = ap done (by-verdict row r h c p) ∙ rw v leads-on
 
   -- the state it hands back belongs together, and the history keeps its length
@@ -170,8 +165,8 @@ module _ (row : QualityMapping) (sane : Sane row) (r : Recording) (h : Progress)
       record {
         offers = g .offers ++ (offer row r h c ∷ []);
         same =
-            play-calls-last (weighing row r) (rateFor row r) (closed row r) (g .offers) (offer row r h c) _
-            ∙ ap (playOneMore (weighing row r) (rateFor row r) (closed row r) (offer row r h c)) (g .same)
+            play-calls-last (weighing row r) (rateFor row r) (wholeInput row r) (g .offers) (offer row r h c) _
+            ∙ ap (playOneMore (weighing row r) (rateFor row r) (wholeInput row r) (offer row r h c)) (g .same)
             ∙ sym leads-on;
         fits =
             record {
@@ -186,7 +181,7 @@ module _ (row : QualityMapping) (sane : Sane row) (r : Recording) (h : Progress)
       }
 
   -- either way the recording stands where one may stand
-  pub one-more-reached : Follows row (closed row r) h c → Reached row r (after h c)
+  pub one-more-reached : Follows row (wholeInput row r) h c → Reached row r (after h c)
   one-more-reached p =
       rw (by-verdict row r h c p)
       (cases (λ (v : Verdict). Reached row r (leads row r h c v)) (judged row r h c) (λ f. rw (after-refused h f (c .out)) g) accepted-reaches)
@@ -251,7 +246,7 @@ module _ (row : QualityMapping) (sane : Sane row) (r : Recording) (m : MadeUnder
 
 -- ---- all of them
 all-reached : (row : QualityMapping) → Sane row → (r : Recording) (h : Progress) (cs : List Call) → Reached row r h
-    → AllFollow row (closed row r) h cs → Reached row r (afterAll h cs)
+    → AllFollow row (wholeInput row r) h cs → Reached row r (afterAll h cs)
 all-reached row sane r h [] g e = g
 all-reached row sane r h (c ∷ cs) g e = all-reached row sane r (after h c) cs (one-more-reached row sane r h g c (e .0)) (e .1)
 

@@ -29,23 +29,23 @@ use Rattle.resampler.specs.Answers.{Told, refused, byVerdict}
 use Rattle.resampler.specs.Entries.{processTold}
 use Rattle.pinned.proofs.Calls.{by-input, call-accepted}
 use Rattle.pinned.proofs.Verdicts.{refused-by}
-use Rattle.recording.specs.Recording.{Call, Recording, Progress, closed, opened, after, afterAll, finished, offered, Follows, AllFollow, MadeUnder}
+use Rattle.recording.specs.Recording.{Call, Recording, Progress, rateFor, wholeInput, opened, after, afterAll, finished, offered, Follows, AllFollow, MadeUnder}
 use Rattle.recording.specs.Demand3.{M, toRead, AllRead, total, NextCall, OffersAll, GetsOn, AllGetOn}
-use Rattle.recording.proofs.Reached.{rateFor, weighing, done, Reached, offer, judged, refused-stays, refused-output, accepted-done, one-more-reached, first-reached, reached}
+use Rattle.recording.proofs.Reached.{weighing, done, Reached, offer, judged, refused-stays, refused-output, accepted-done, one-more-reached, first-reached, reached}
 use Rattle.recording.proofs.Counts.{total-is, rate-fit, moved}
 
 -- ---- one call more
 module _ (row : QualityMapping) (sane : Sane row) (r : Recording) (m : MadeUnder row r) (h : Progress) (g : Reached row r h)
-    (c : Call) (p : Follows row (closed row r) h c) where
+    (c : Call) (p : Follows row (wholeInput row r) h c) where
   abbrev so-far : Moved (rateFor row r) 0 (toRead row r) (fresh (rateFor row r)) (done h .numbers)
   so-far = moved row sane r m h g
 
   -- it is offered as many samples as are asked for and left
-  input-length : length (offered (closed row r) h c) ≡ min (c .offers) (toRead row r - h .consumed)
+  input-length : length (offered (wholeInput row r) h c) ≡ min (c .offers) (toRead row r - h .consumed)
   input-length =
-      length-take (c .offers) (drop (h .consumed) (closed row r))
+      length-take (c .offers) (drop (h .consumed) (wholeInput row r))
       ∙ ap (min (c .offers))
-      (length-drop (h .consumed) (closed row r) ∙ ap (λ (k : ℕ). k - h .consumed) (length-closed nought (rateFor row r) (r .samples)))
+      (length-drop (h .consumed) (wholeInput row r) ∙ ap (λ (k : ℕ). k - h .consumed) (length-closed nought (rateFor row r) (r .samples)))
 
   -- where it is accepted, its numbers are those of one offer more
   numbers-after : judged row r h c ≡ Accept
@@ -53,7 +53,7 @@ module _ (row : QualityMapping) (sane : Sane row) (r : Recording) (m : MadeUnder
   numbers-after v =
       ap (λ (d : Played Called Float). d .numbers) (accepted-done row sane r h g c v p)
       ∙ ap (callThen (done h .numbers))
-      (numbers-of-a-call (weighing row r) (rateFor row r) (h .state .«magic_samples») (offered (closed row r) h c) (length (c .out)) (placeIn (h .state)) (h .mem)
+      (numbers-of-a-call (weighing row r) (rateFor row r) (h .state .«magic_samples») (offered (wholeInput row r) h c) (length (c .out)) (placeIn (h .state)) (h .mem)
       ∙ ap (λ (inn : ℕ). call (rateFor row r) (h .state .«magic_samples») inn (length (c .out)) (placeIn (h .state))) input-length)
 
   -- it is accepted where a sample is left and offered, within what one call takes
@@ -89,14 +89,14 @@ number-by true u s done e = refl
 number-by false true s done e = refl
 number-by false false s done e = e
 
-module _ (row : QualityMapping) (sane : Sane row) (r : Recording) (m : MadeUnder row r) (c : Call) (p : Follows row (closed row r) (finished r) c) where
+module _ (row : QualityMapping) (sane : Sane row) (r : Recording) (m : MadeUnder row r) (c : Call) (p : Follows row (wholeInput row r) (finished r) c) where
   -- why it may be refused, and that it then changes nothing
   pub next-call : NextCall row r c
   unfolding processTold
   next-call =
       let h = finished r in
       let g = reached row sane r m in
-      let inn = length (offered (closed row r) h c) in
+      let inn = length (offered (wholeInput row r) h c) in
       record {
         number =
             rw (p .tells, by-input row (h .state) (length (h .mem)) (length (h .coefs)) (g .fits) inn (length (c .out)))
@@ -119,7 +119,7 @@ consumed-grows h (c ∷ cs) = omega (arith, consumed-grows (after h c) cs)
 
 module _ (row : QualityMapping) (sane : Sane row) (r : Recording) (m : MadeUnder row r) where
   -- all is read, or each call has read a sample or made an output
-  all-get-on : (h : Progress) (cs : List Call) → Reached row r h → AllFollow row (closed row r) h cs → AllGetOn cs
+  all-get-on : (h : Progress) (cs : List Call) → Reached row r h → AllFollow row (wholeInput row r) h cs → AllGetOn cs
       → (toRead row r ≤ afterAll h cs .consumed) ⊎ (h .consumed + h .written + length cs ≤ afterAll h cs .consumed + afterAll h cs .written)
   all-get-on h [] g f k = inr (omega arith)
   all-get-on h (c ∷ cs) g f k = elim (below-or-not (h .consumed) (toRead row r)) [

@@ -13,7 +13,7 @@ use Rattle.quality.specs.declared.QualityMapping.{QualityMapping}
 use Rattle.quality.proofs.House.{house-sane}
 use Rattle.rates.specs.Setting.{settingOf}
 use Rattle.kernel.specs.Sums.{at}
-use Rattle.recording.specs.Recording.{Call, Recording, closed, after, finished, Follows, MadeUnder, withCalls}
+use Rattle.recording.specs.Recording.{Call, Recording, wholeInput, after, finished, Follows, MadeUnder, withCalls}
 use Rattle.recording.specs.Demand3.{M, made, PositionLaw, toRead, AllRead, total, Counted, StreamOutputs, TightBound, SameSettings, SameOutside, NextCall, OffersAll, AllGetOn, CutAs, Demand3}
 use Rattle.recording.specs.Totals.{countedTotal, maxSamples, closedTotalTold}
 use Rattle.recording.proofs.Counts as counts
@@ -54,7 +54,7 @@ module _ (row : QualityMapping) (sane : Sane row) (r : Recording) (m : MadeUnder
   every-front cs ds = fronts.every-front row r m cs ds
 
   -- the next call reads everything that is left, if it is offered that and has room enough, both within what one call takes
-  pub reads-to-the-end : (c : Call) → Follows row (closed row r) (finished r) c → OffersAll row r c → after (finished r) c .consumed ≡ toRead row r
+  pub reads-to-the-end : (c : Call) → Follows row (wholeInput row r) (finished r) c → OffersAll row r c → after (finished r) c .consumed ≡ toRead row r
   reads-to-the-end = reading.reads-to-the-end row sane r m
 
   -- and smaller calls get there, once there are as many as there is to read and to make

@@ -14,20 +14,20 @@ totalOf zero true total = Closed (record { 0 = total })
 totalOf zero false total = TooMany
 totalOf (suc n) counted total = Refused (refusalAfter n)
 
-abbrev answered : TotalTold → Total
-answered t = totalOf (t .number) (t .counted) (t .total)
+abbrev totalFrom : TotalTold → Total
+totalFrom t = totalOf (t .number) (t .counted) (t .total)
 
 -- which undoes `totalTold`
-answered-told : (a : Total) → answered (totalTold a) ≡ a
-answered-told (Refused Rate) = refl
-answered-told (Refused History) = refl
-answered-told (Refused Coefficients) = refl
-answered-told (Refused EmptyInput) = refl
-answered-told (Refused TooLong) = refl
-answered-told (Refused NoRate) = refl
-answered-told (Refused State) = refl
-answered-told TooMany = refl
-answered-told (Closed written) = refl
+total-from-told : (a : Total) → totalFrom (totalTold a) ≡ a
+total-from-told (Refused Rate) = refl
+total-from-told (Refused History) = refl
+total-from-told (Refused Coefficients) = refl
+total-from-told (Refused EmptyInput) = refl
+total-from-told (Refused TooLong) = refl
+total-from-told (Refused NoRate) = refl
+total-from-told (Refused State) = refl
+total-from-told TooMany = refl
+total-from-told (Closed written) = refl
 
 pub total-pinned : (source target M : ℕ) (a b : Total) → totalTold a ≡ closedTotalTold source target M → totalTold b ≡ closedTotalTold source target M → a ≡ b
-total-pinned source target M a b p q = sym (answered-told a) ∙ ap answered (p ∙ sym q) ∙ answered-told b
+total-pinned source target M a b p q = sym (total-from-told a) ∙ ap totalFrom (p ∙ sym q) ∙ total-from-told b

@@ -3,13 +3,14 @@
 use mathlib.Core.Path.{_≡_}
 use mathlib.Core.Logic.{_⊎_}
 use mathlib.Core.Bool.{cond, _||_}
-use mathlib.Core.List.{List, [], _∷_, _++_, map}
+use mathlib.Core.List.{List, [], _∷_, map}
 use Prim.Native.Nat.{ℕ, _+_, _-_, _*_, _/_, _%_, _≤_, _<_}
 use lib.Dec.{eqb, ltb}
 use lib.Ieee.{Float, nan}
-use lib.ListN.{length, take, drop, replicate}
+use lib.ListN.{length, take, drop}
 use Rattle.math.specs.Numerals.{nought}
 use Rattle.ratio.specs.Lowest.{lowest}
+use Rattle.timeline.specs.Recording.{stream, streamPosition}
 use Rattle.timeline.specs.Laws.{Ceiling, DifferWithin}
 use Rattle.quality.specs.declared.QualityMapping.{QualityMapping}
 use Rattle.rates.specs.Rated.{closedTotal}
@@ -20,7 +21,7 @@ use Rattle.rounds.specs.Output.{phaseOf}
 use Rattle.judge.specs.Refusals.{maxCall}
 use Rattle.resampler.specs.Answers.{told}
 use Rattle.pinned.specs.Pinned.{IsRefused}
-use Rattle.recording.specs.Recording.{Call, Recording, settingFor, closed, after, finished, offered, MadeUnder}
+use Rattle.recording.specs.Recording.{Call, Recording, settingFor, rateFor, wholeInput, after, finished, offered, MadeUnder}
 
 module _ (row : QualityMapping) (r : Recording) where
   -- source over target in lowest terms, the filter's length, and how many samples there are
@@ -70,35 +71,35 @@ module _ (row : QualityMapping) (r : Recording) where
   -- ---- the samples
 
   -- the stream: n-1 zeros, the M samples, n/2 zeros
-  abbrev pub stream : List Float
-  stream = replicate (n - 1) nought ++ closed row r
+  abbrev pub wholeStream : List Float
+  wholeStream = stream nought (rateFor row r) (wholeInput row r)
 
-  -- the stream position of output k, at which its window starts
-  abbrev pub streamPosition : ℕ → ℕ
-  streamPosition k = n / 2 + k * num / den
+  -- where the window of output k starts in it: its stream position, n/2 + floor(k*num/den)
+  abbrev pub windowStart : ℕ → ℕ
+  windowStart k = streamPosition (rateFor row r) k
 
   -- output k by the kernel's own step: at phase k*num mod den, over the table of these rates, of the n entries of the stream from its position on
   abbrev pub outputAt : ℕ → Float
   outputAt k =
       let s = settingFor row r in
-      stepOf (phaseOf s (k * num % den)) n (s .oversample) (tableOf s) (take n (drop (streamPosition k) stream))
+      stepOf (phaseOf s (k * num % den)) n (s .oversample) (tableOf s) (take n (drop (windowStart k) wholeStream))
 
   -- there are as many outputs as the counts say; the window of each lies within the stream; and each is that one
   pub record StreamOutputs : Type 0 where
     pub many : length (finished r .outputs) ≡ made
-    pub within : (k : ℕ) → k < made → streamPosition k + n ≤ length stream
+    pub within : (k : ℕ) → k < made → windowStart k + n ≤ length wholeStream
     pub each : (k : ℕ) → k < made → at (finished r .outputs) k ≡ outputAt k
 
   -- ---- damage
 
   -- the window of output k misses samples a to b-1
   abbrev pub Misses : ℕ → ℕ → ℕ → Type 0
-  Misses a b k = (streamPosition k < a) ⊎ (b + n - 1 ≤ streamPosition k)
+  Misses a b k = (windowStart k < a) ⊎ (b + n - 1 ≤ windowStart k)
 
   -- the next positions on either side are not missed: a NaN as sample a reaches every output at stream position a, and as sample b-1 every one at b+n-2
   pub record TightBound : Type 0 where
-    pub below : (a k : ℕ) → a < M → at (r .samples) a ≡ nan → streamPosition k ≡ a → k < made → at (finished r .outputs) k ≡ nan
-    pub above : (b k : ℕ) → 0 < b → b ≤ M → at (r .samples) (b - 1) ≡ nan → streamPosition k ≡ b + n - 2 → k < made
+    pub below : (a k : ℕ) → a < M → at (r .samples) a ≡ nan → windowStart k ≡ a → k < made → at (finished r .outputs) k ≡ nan
+    pub above : (b k : ℕ) → 0 < b → b ≤ M → at (r .samples) (b - 1) ≡ nan → windowStart k ≡ b + n - 2 → k < made
         → at (finished r .outputs) k ≡ nan
 
 -- two recordings under the same settings
@@ -117,7 +118,7 @@ SameOutside row a b q r =
 -- call takes, and is accepted else. Refused, it changes nothing
 pub record NextCall (row : QualityMapping) (r : Recording) (c : Call) : Type 0 where
   pub number : told (c .answer) .number
-      ≡ (let inn = length (offered (closed row r) (finished r) c) in
+      ≡ (let inn = length (offered (wholeInput row r) (finished r) c) in
       cond (eqb inn 0) 4 (cond (ltb maxCall inn || ltb maxCall (length (c .out))) 5 0))
   pub refused : IsRefused (told (c .answer)) → (after (finished r) c ≡ finished r) × (c .out' ≡ c .out)
 

@@ -3,13 +3,16 @@
 -- that what it answers and leaves is what its contract ensures, and nothing else. Assumes nothing.
 use mathlib.Core.Path.{_≡_}
 use mathlib.Core.List.{List, [], _∷_, _++_}
-use Prim.Native.Nat.{ℕ, _+_, _/_, _≤_}
+use Prim.Native.Nat.{ℕ, _+_, _≤_}
 use lib.Ieee.{Float}
-use lib.ListN.{length, take, drop, replicate}
+use lib.ListN.{length, take, drop}
 use Rattle.math.specs.Numerals.{nought}
 use Rattle.sizes.specs.Sizes.{InLimits, historyNeeded}
+use Rattle.timeline.specs.Numbers.{Rate}
+use Rattle.timeline.specs.Recording.{closed}
 use Rattle.quality.specs.declared.QualityMapping.{QualityMapping}
 use Rattle.rates.specs.Setting.{settingOf}
+use Rattle.rates.specs.Rated.{rateWith}
 use Rattle.rates.specs.declared.Setting.{Setting}
 use Rattle.state.specs.declared.ResamplerState.{ResamplerState}
 use Rattle.resampler.specs.Answers.{Told, told}
@@ -48,9 +51,13 @@ pub record Recording : Type 0 where
 abbrev pub settingFor : QualityMapping → Recording → Setting
 settingFor row r = settingOf row (r .source) (r .target)
 
+-- as the rate that places and counts are told in; the history that the filter needs is used
+abbrev pub rateFor : QualityMapping → Recording → Rate
+rateFor row r = rateWith (settingFor row r) (historyNeeded (settingFor row r .«filt_len»))
+
 -- all that is to be read: its samples, and half a filter length of zeros
-abbrev pub closed : QualityMapping → Recording → List Float
-closed row r = r .samples ++ replicate (settingFor row r .«filt_len» / 2) nought
+abbrev pub wholeInput : QualityMapping → Recording → List Float
+wholeInput row r = closed nought (rateFor row r) (r .samples)
 
 -- where it stands between two calls: the state and the slices for the next one; the sums of the consumed and the written counts that the calls told;
 -- and the outputs, in order
@@ -113,7 +120,7 @@ pub record MadeUnder (row : QualityMapping) (r : Recording) : Type 0 where
   pub coefficients : settingFor row r .coefs ≤ length (r .coefs)
   pub new : told (r .new-answer) ≡ newTold (r .target)
   pub rate : SetsRate row (told (r .new-answer) .state) (r .source) (r .mem) (r .coefs) (r .rate-answer) (r .mem') (r .coefs')
-  pub calls : AllFollow row (closed row r) (opened r) (r .calls)
+  pub calls : AllFollow row (wholeInput row r) (opened r) (r .calls)
 
 -- the same beginning, with other calls
 abbrev pub withCalls : Recording → List Call → Recording

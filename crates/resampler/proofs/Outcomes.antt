@@ -30,8 +30,8 @@ pub verdict-is : {v : Verdict} {row house : QualityMapping} (judged : QualityMap
 verdict-is judged e j f = ap judged (sym e) ∙ sym j ∙ f
 
 -- accepted with counts of zero
-none : (s : ResamplerState) (c : Consumed) (w : Written) → c .0 ≡ 0 → w .0 ≡ 0 → told (Accepted s c w) ≡ accepted s 0 0
-none s c w f g = rw (f, g)
+no-counts : (s : ResamplerState) (c : Consumed) (w : Written) → c .0 ≡ 0 → w .0 ≡ 0 → told (Accepted s c w) ≡ accepted s 0 0
+no-counts s c w f g = rw (f, g)
 
 module _ (row : QualityMapping) (s : ResamplerState) (source : ℕ) (mem coefs : List Float) where
   pub rate-refused : (r : Refusal) → rateVerdict row s source (length mem) (length coefs) ≡ Refuse r
@@ -44,7 +44,7 @@ module _ (row : QualityMapping) (s : ResamplerState) (source : ℕ) (mem coefs :
   unfolding rateTold rateHistory rateCoefficients
   rate-same c w f g e same =
       let t = eq-eqb (s .source) source same in
-      record { tells = rw (e, t) (none s c w f g); history = rw (e, t); coefficients = rw (e, t) }
+      record { tells = rw (e, t) (no-counts s c w f g); history = rw (e, t); coefficients = rw (e, t) }
 
   pub rate-changed : {t : ResamplerState} {m l : List Float} (c : Consumed) (w : Written) → c .0 ≡ 0 → w .0 ≡ 0
       → rateVerdict row s source (length mem) (length coefs) ≡ Accept → (s .source ≡ source → ⊥)
@@ -56,7 +56,7 @@ module _ (row : QualityMapping) (s : ResamplerState) (source : ℕ) (mem coefs :
   rate-changed {t} c w f g e other st hi co =
       let o = ne-eqb (s .source) source other in
       record {
-        tells = rw (e, o) (none t c w f g ∙ ap (λ (x : ResamplerState). accepted x 0 0) st);
+        tells = rw (e, o) (no-counts t c w f g ∙ ap (λ (x : ResamplerState). accepted x 0 0) st);
         history = rw (e, o) hi;
         coefficients = rw (e, o) co;
       }
@@ -82,4 +82,4 @@ module _ (row : QualityMapping) (s : ResamplerState) (mem : List Float) where
       → Resets row s mem (Accepted t c w) m
   unfolding resetTold resetHistory
   reset-done {t} c w f g e st hi =
-      record { tells = rw e (none t c w f g ∙ ap (λ (x : ResamplerState). accepted x 0 0) st); history = rw e hi }
+      record { tells = rw e (no-counts t c w f g ∙ ap (λ (x : ResamplerState). accepted x 0 0) st); history = rw e hi }

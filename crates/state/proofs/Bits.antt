@@ -49,19 +49,19 @@ same-equal (fin s m e) (fin t n d) h =
     rw (same-sign s t (q .0), eqb-true m n (q .1), equal-exponents e d (p .1))
 
 -- ---- equal, and no NaN: the same bits
-own-sign : (s : Bool) → Bool·beq s s ≡ true
-own-sign true = refl
-own-sign false = refl
+sign-itself : (s : Bool) → Bool·beq s s ≡ true
+sign-itself true = refl
+sign-itself false = refl
 
-own-exponent : (e : ℤ) → sameExponent e e ≡ true
-own-exponent (pos k) = eq-eqb k k refl
-own-exponent (negsuc k) = eq-eqb k k refl
+exponent-itself : (e : ℤ) → sameExponent e e ≡ true
+exponent-itself (pos k) = eq-eqb k k refl
+exponent-itself (negsuc k) = eq-eqb k k refl
 
 pub same-self : (x : Float) → isNan x ≡ false → sameBits x x ≡ true
 unfolding sameBits isNan
 same-self nan h = absurd (true≢false h)
-same-self (inf s) h = own-sign s
-same-self (fin s m e) h = rw (own-sign s, eq-eqb m m refl, own-exponent e)
+same-self (inf s) h = sign-itself s
+same-self (fin s m e) h = rw (sign-itself s, eq-eqb m m refl, exponent-itself e)
 
 -- ---- a NaN is the same as nothing
 pub nan-first : (a b : Float) → isNan a ≡ true → sameBits a b ≡ false

@@ -63,10 +63,10 @@ module _ (r : Rate) where
   -- a round's clauses, by facts instead of tests
   pub made-none : (i room : ℕ) (p : Place) → i ≤ p .position → made r i room p ≡ 0
   made-none i zero p h = refl
-  made-none i (suc room) p h = rw (le-ltb (p .position) i h, made)
+  made-none i (suc room) p h = ap (λ (t : Bool). elim t [ true ↦ suc (made r i room (next r p)) | false ↦ 0 ]) (le-ltb (p .position) i h)
 
   pub made-more : (i room : ℕ) (p : Place) → p .position < i → made r i (suc room) p ≡ suc (made r i room (next r p))
-  made-more i room p h = rw (lt-ltb (p .position) i h, made)
+  made-more i room p h = ap (λ (t : Bool). elim t [ true ↦ suc (made r i room (next r p)) | false ↦ 0 ]) (lt-ltb (p .position) i h)
 
   -- an output is made only where its position is below the samples in
   pub made-below : (i room : ℕ) (p : Place) (j : ℕ) → j < made r i room p → ahead r j p .position < i

@@ -90,7 +90,7 @@ magic-fits c h k some none filled =
     (λ u. picked Fits (ltb n old) (λ v. omega (arith, ltb-true n old v)) (λ v. omega (arith, ltb-false old n u, ltb-false n old v))))
 
 -- what a change of rate asks for
-pub record Ready (row : QualityMapping) (s : ResamplerState) (source mem coefs : ℕ) : Type 0 where
+pub record RateReady (row : QualityMapping) (s : ResamplerState) (source mem coefs : ℕ) : Type 0 where
   pub standing : Standing s
   pub source-in : InLimits source
   pub setting : Limits row (settingOf row source (s .target))
@@ -100,9 +100,9 @@ pub record Ready (row : QualityMapping) (s : ResamplerState) (source mem coefs :
   pub magic-to : historyNeeded (settingOf row source (s .target) .«filt_len» + 2 * reshapedMagic (changeOf s (settingOf row source (s .target))))
       ≤ historyAfter s (settingOf row source (s .target))
 
-pub ready : (row : QualityMapping) → Sane row → (s : ResamplerState) (source mem coefs : ℕ) → rateVerdict row s source mem coefs ≡ Accept
-    → (s .source ≡ source → ⊥) → Ready row s source mem coefs
-ready row sane s source mem coefs e other =
+pub rate-ready : (row : QualityMapping) → Sane row → (s : ResamplerState) (source mem coefs : ℕ) → rateVerdict row s source mem coefs ≡ Accept
+    → (s .source ≡ source → ⊥) → RateReady row s source mem coefs
+rate-ready row sane s source mem coefs e other =
     let v = rate-accepts row s source mem coefs e in
     let st : Standing s = ⊎-elim (fresh-stands s) (rated-stands row sane s) (belongs-is row s (v .belongs)) in
     let l = limits row sane source (s .target) (v .source-in) (st .target) in

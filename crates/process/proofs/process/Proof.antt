@@ -7,14 +7,14 @@ use borrow.Author.Needs.{needs}
 use Rattle.rounds.specs.Rounds.{Wrote}
 use Rattle.calls.specs.Calls.{calledOf}
 use Rattle.process.specs.Process.{played}
-use Rattle.process.proofs.Processes.{Ready, ready, Ended, call-ends, as-played, plays}
+use Rattle.process.proofs.Processes.{CallReady, call-ready, Ended, call-ends, as-played, plays}
 use Rattle.process.proofs.process.Statement.{statement}
 use Rattle.process.proofs.process.Tie as tie
 
 -- what the verdict says
-known : (c : tie.Start) → Ready (c .args .row) (c .args .state) (length (now (c .args .mem))) (length (now (c .args .coefs)))
+known : (c : tie.Start) → CallReady (c .args .row) (c .args .state) (length (now (c .args .mem))) (length (now (c .args .coefs)))
 known c =
-    ready (c .args .row) (c .pre .0) (c .args .state) (length (now (c .args .mem))) (length (now (c .args .coefs)))
+    call-ready (c .args .row) (c .pre .0) (c .args .state) (length (now (c .args .mem))) (length (now (c .args .coefs)))
     (length (now (c .args .input))) (length (now (c .args .out))) (c .pre .1)
 
 -- once the call is made

@@ -6,13 +6,13 @@ use denote.Ref.{now}
 use borrow.Author.Needs.{needs}
 use Rattle.rates.specs.declared.Setting.{Setting}
 use Rattle.reshape.specs.declared.Change.{Change}
-use Rattle.update.proofs.Updates.{Ready, ready}
+use Rattle.update.proofs.Updates.{RateReady, rate-ready}
 use Rattle.update.proofs.update_filter.Statement.{statement}
 use Rattle.update.proofs.update_filter.Tie as tie
 
 -- what the verdict says
-known : (c : tie.Start) → Ready (c .args .row) (c .args .state) (c .args .source) (length (now (c .args .mem))) (length (now (c .args .coefs)))
-known c = ready (c .args .row) (c .pre .0) (c .args .state) (c .args .source) (length (now (c .args .mem))) (length (now (c .args .coefs))) (c .pre .1) (c .pre .2)
+known : (c : tie.Start) → RateReady (c .args .row) (c .args .state) (c .args .source) (length (now (c .args .mem))) (length (now (c .args .coefs)))
+known c = rate-ready (c .args .row) (c .pre .0) (c .args .state) (c .args .source) (length (now (c .args .mem))) (length (now (c .args .coefs))) (c .pre .1) (c .pre .2)
 
 new-requires : tie.Need-new-requires
 new-requires c κs = let k = known (c .before .before) in (c .before .before .pre .0, k .source-in, k .standing .target)
