@@ -2,7 +2,7 @@
 -- Assumes nothing.
 use Prim.Native.Nat.{ℕ}
 use Rattle.judge.specs.declared.Refusal.{Refusal}
-use Rattle.judge.specs.declared.Refusal.the-variants.{Rate, History, Coefficients, EmptyInput, TooLong, NoRate, State}
+use Rattle.judge.specs.declared.Refusal.the-variants.{Rate, History, Coefficients, EmptyInput, TooLong, NoRate, State, Mark, Version}
 
 -- the number of each refusal
 abbrev pub refusalNumber : Refusal → ℕ
@@ -13,6 +13,8 @@ refusalNumber EmptyInput = 4
 refusalNumber TooLong = 5
 refusalNumber NoRate = 6
 refusalNumber State = 7
+refusalNumber Mark = 8
+refusalNumber Version = 9
 
 -- the most samples that one call takes, and the most that it gives
 abbrev pub maxCall : ℕ

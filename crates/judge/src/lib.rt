@@ -10,12 +10,14 @@ ghost use mathlib.Core.Path.{_≡_};
 ghost use Prim.Native.Nat.{_≤_, max};
 ghost use Rattle.sizes.specs.Sizes.{historyNeeded, maxHistory};
 ghost use Rattle.quality.specs.Quality.{Sane};
+ghost use Rattle.judge.specs.Refusals.{refusalNumber};
 ghost use Rattle.judge.specs.Verdicts.{newVerdict, rateVerdict, processVerdict, resetVerdict, skipVerdict};
 
 // The most samples that one call takes, and the most that it gives.
 const MAX_CALL: usize = 16777216;
 
-// Why a call is refused.
+// Why a call is refused. `Mark` and `Version` are the program's, about a file's header; no judge here
+// gives them.
 pub enum Refusal {
     Rate,
     History,
@@ -24,6 +26,27 @@ pub enum Refusal {
     TooLong,
     NoRate,
     State,
+    Mark,
+    Version,
+}
+
+impl Refusal {
+    // Document 01's number.
+    pub fn number(self) -> u32
+        ensures { λ r. ⌜ r ≡ refusalNumber self ⌝ }
+    {
+        match self {
+            Refusal::Rate => 1,
+            Refusal::History => 2,
+            Refusal::Coefficients => 3,
+            Refusal::EmptyInput => 4,
+            Refusal::TooLong => 5,
+            Refusal::NoRate => 6,
+            Refusal::State => 7,
+            Refusal::Mark => 8,
+            Refusal::Version => 9,
+        }
+    }
 }
 
 // What becomes of a call: it is refused, or it is accepted.

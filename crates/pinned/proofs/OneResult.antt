@@ -6,7 +6,7 @@ use lib.Ieee.{Float}
 use Rattle.quality.specs.declared.QualityMapping.{QualityMapping}
 use Rattle.state.specs.declared.ResamplerState.{ResamplerState}
 use Rattle.judge.specs.declared.Refusal.{Refusal}
-use Rattle.judge.specs.declared.Refusal.the-variants.{Rate, History, Coefficients, EmptyInput, TooLong, NoRate, State}
+use Rattle.judge.specs.declared.Refusal.the-variants.{Rate, History, Coefficients, EmptyInput, TooLong, NoRate, State, Mark, Version}
 use Rattle.resampler.specs.Answers.{Told, told}
 use Rattle.resampler.specs.Entries.{newTold, skipTold}
 use Rattle.resampler.specs.Contracts.{SetsRate, Processes, Resets}
@@ -23,7 +23,9 @@ refusalAfter (suc (suc zero)) = Coefficients
 refusalAfter (suc (suc (suc zero))) = EmptyInput
 refusalAfter (suc (suc (suc (suc zero)))) = TooLong
 refusalAfter (suc (suc (suc (suc (suc zero))))) = NoRate
-refusalAfter (suc (suc (suc (suc (suc (suc n)))))) = State
+refusalAfter (suc (suc (suc (suc (suc (suc zero)))))) = State
+refusalAfter (suc (suc (suc (suc (suc (suc (suc zero))))))) = Mark
+refusalAfter (suc (suc (suc (suc (suc (suc (suc (suc n)))))))) = Version
 
 -- the answer of a number
 abbrev answerOf : ℕ → Told → Answer
@@ -42,6 +44,8 @@ answered-told (Refused EmptyInput s) = refl
 answered-told (Refused TooLong s) = refl
 answered-told (Refused NoRate s) = refl
 answered-told (Refused State s) = refl
+answered-told (Refused Mark s) = refl
+answered-told (Refused Version s) = refl
 answered-told (Accepted s consumed written) = refl
 
 told-apart : (a b : Answer) → told a ≡ told b → a ≡ b

@@ -8,7 +8,7 @@ use lib.Dec.{eqb}
 use Rattle.state.specs.declared.ResamplerState.{ResamplerState}
 use Rattle.judge.specs.Refusals.{refusalNumber}
 use Rattle.judge.specs.declared.Refusal.{Refusal}
-use Rattle.judge.specs.declared.Refusal.the-variants.{Rate, History, Coefficients, EmptyInput, TooLong, NoRate, State}
+use Rattle.judge.specs.declared.Refusal.the-variants.{Rate, History, Coefficients, EmptyInput, TooLong, NoRate, State, Mark, Version}
 use Rattle.judge.specs.declared.Verdict.{Verdict}
 use Rattle.judge.specs.declared.Verdict.the-variants.{Refuse, Accept}
 use Rattle.resampler.specs.Answers.{refused, accepted, byVerdict}
@@ -23,6 +23,8 @@ numbered EmptyInput = omega arith
 numbered TooLong = omega arith
 numbered NoRate = omega arith
 numbered State = omega arith
+numbered Mark = omega arith
+numbered Version = omega arith
 
 -- each case, with the verdict known where the call is accepted
 pub cases : (P : Verdict → Type 0) (v : Verdict) → ((r : Refusal) → P (Refuse r)) → (v ≡ Accept → P Accept) → P v

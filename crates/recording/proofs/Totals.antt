@@ -2,7 +2,7 @@
 use mathlib.Core.Path.{_≡_, refl, sym, _∙_, ap}
 use mathlib.Core.Bool.{Bool, true, false}
 use Prim.Native.Nat.{ℕ, zero, suc}
-use Rattle.judge.specs.declared.Refusal.the-variants.{Rate, History, Coefficients, EmptyInput, TooLong, NoRate, State}
+use Rattle.judge.specs.declared.Refusal.the-variants.{Rate, History, Coefficients, EmptyInput, TooLong, NoRate, State, Mark, Version}
 use Rattle.pinned.proofs.OneResult.{refusalAfter}
 use Rattle.recording.specs.Totals.{TotalTold, totalTold, closedTotalTold}
 use Rattle.recording.specs.declared.Total.{Total}
@@ -26,6 +26,8 @@ total-from-told (Refused EmptyInput) = refl
 total-from-told (Refused TooLong) = refl
 total-from-told (Refused NoRate) = refl
 total-from-told (Refused State) = refl
+total-from-told (Refused Mark) = refl
+total-from-told (Refused Version) = refl
 total-from-told TooMany = refl
 total-from-told (Closed written) = refl
 
