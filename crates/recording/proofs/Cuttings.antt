@@ -48,13 +48,13 @@ module _ (row : QualityMapping) (s : ResamplerState) (mem coefs input out : List
   abbrev numbers : Called
   numbers = played s coefs input (length out) mem .numbers
 
-  abbrev processAnswer : Answer
+  abbrev pub processAnswer : Answer
   processAnswer =
       byVerdict verdict (λ f. Refused f s)
       (answering (playedState s (length input) (length out) numbers) (numbers .turn .consumed) (numbers .turn .written))
 
   -- with the slices as the contract says they are
-  process-answers : Processes row s mem coefs input out processAnswer (processHistory row s mem coefs input out) (processOutput row s mem coefs input out)
+  pub process-answers : Processes row s mem coefs input out processAnswer (processHistory row s mem coefs input out) (processOutput row s mem coefs input out)
   unfolding processTold
   process-answers =
       record {
@@ -110,7 +110,7 @@ module _ (row : QualityMapping) (xs : List Float) where
 -- ---- a recording
 module _ (row : QualityMapping) (source target : ℕ) (samples mem coefs : List Float) where
   -- before its calls: what `new` and set rate answer and leave
-  abbrev begun : Recording
+  abbrev pub begun : Recording
   begun =
       record {
         source = source;
@@ -132,7 +132,7 @@ module _ (row : QualityMapping) (source target : ℕ) (samples mem coefs : List 
   module _ (hs : InLimits source) (ht : InLimits target) (m : historyNeeded (settingOf row source target .«filt_len») ≤ length mem)
       (k : settingOf row source target .coefs ≤ length coefs) where
     -- it is one, and it was cut so
-    cut-as : (cut : List (ℕ × List Float)) → CutAs row source target samples mem coefs cut (recordingFor cut)
+    pub cut-as : (cut : List (ℕ × List Float)) → CutAs row source target samples mem coefs cut (recordingFor cut)
     cut-as cut =
         record {
           made-under =

@@ -3,7 +3,7 @@ use mathlib.Core.Path.{_≡_, refl, _∙_, ap}
 use mathlib.Core.Bool.{Bool, true, false, cond, _||_}
 use mathlib.Core.Logic.{_⊎_, inl, inr}
 use mathlib.Core.List.{List, [], _∷_}
-use Prim.Native.Nat.{ℕ, _+_, _-_, _≤_, _<_, min}
+use Prim.Native.Nat.{ℕ, _+_, _-_, _*_, _≤_, _<_, min}
 use native.Mathlib.Omega.{arith}
 use lib.Dec.{eqb, ltb}
 use lib.Ieee.{Float}
@@ -14,7 +14,7 @@ use Rattle.timeline.specs.Samples.{Played}
 use Rattle.timeline.specs.Recording.{callThen, oneMore}
 use Rattle.timeline.proofs.Places.{below-or-not}
 use Rattle.timeline.proofs.Turns.{Moved}
-use Rattle.timeline.proofs.Count.{never-more, one-more-goes-on, one-more-reads}
+use Rattle.timeline.proofs.Count.{never-more, one-more-goes-on, one-more-reads, one-more-reads-its-own}
 use Rattle.timeline.proofs.Streams.{length-closed}
 use Rattle.timeline.proofs.Theorems.{numbers-of-a-call}
 use Rattle.quality.specs.Quality.{Sane}
@@ -23,14 +23,14 @@ use Rattle.state.specs.declared.ResamplerState.{ResamplerState}
 use Rattle.judge.specs.Refusals.{maxCall}
 use Rattle.judge.specs.Verdicts.{refuseIf}
 use Rattle.judge.specs.declared.Refusal.the-variants.{EmptyInput, TooLong}
-use Rattle.judge.specs.declared.Verdict.the-variants.{Accept}
+use Rattle.judge.specs.declared.Verdict.the-variants.{Refuse, Accept}
 use Rattle.process.specs.Process.{placeIn}
 use Rattle.resampler.specs.Answers.{Told, refused, byVerdict}
 use Rattle.resampler.specs.Entries.{processTold}
 use Rattle.pinned.proofs.Calls.{by-input, call-accepted}
 use Rattle.pinned.proofs.Verdicts.{refused-by}
 use Rattle.recording.specs.Recording.{Call, Recording, Progress, rateFor, wholeInput, opened, after, afterAll, finished, offered, Follows, AllFollow, MadeUnder}
-use Rattle.recording.specs.Demand3.{M, toRead, AllRead, total, NextCall, OffersAll, GetsOn, AllGetOn}
+use Rattle.recording.specs.Demand3.{num, den, M, toRead, AllRead, total, NextCall, OffersAll, GetsOn, AllGetOn}
 use Rattle.recording.proofs.Reached.{weighing, done, Reached, offer, judged, refused-stays, refused-output, accepted-done, one-more-reached, first-reached, reached}
 use Rattle.recording.proofs.Counts.{total-is, rate-fit, moved}
 
@@ -62,6 +62,10 @@ module _ (row : QualityMapping) (sane : Sane row) (r : Recording) (m : MadeUnder
   is-accepted some left offers-to room-to =
       call-accepted row (h .state) (length (h .mem)) (length (h .coefs)) (g .fits) _ _ (omega (arith, input-length)) (omega (arith, input-length)) room-to
 
+  -- without a sample it is refused
+  empty-refused : length (offered (wholeInput row r) h c) ≡ 0 → judged row r h c ≡ Refuse EmptyInput
+  empty-refused e = by-input row (h .state) (length (h .mem)) (length (h .coefs)) (g .fits) _ (length (c .out)) ∙ rw e
+
   -- a sample is read or an output is made
   gets-on : GetsOn c → h .consumed < toRead row r → h .consumed + h .written < after h c .consumed + after h c .written
   gets-on k left =
@@ -78,6 +82,18 @@ module _ (row : QualityMapping) (sane : Sane row) (r : Recording) (m : MadeUnder
         (ap (λ (d : Called). d .turn .consumed) (numbers-after (is-accepted (omega arith) left (omega arith) room-to))
         ∙ one-more-reads (rateFor row r) (rate-fit row sane r m) (M row r) (done h .numbers) (offer row r h c) so-far all (rw (← total-is row r) room))
     | inr none ↦ omega (arith, moved row sane r m (after h c) (one-more-reached row sane r h g c p) .consumed)
+  ]
+
+  -- all that it is offered is read, where that is no more than is left, with more room than the outputs that it can lead to
+  pub reads-its-own : h .consumed + c .offers ≤ toRead row r → c .offers ≤ maxCall → length (c .out) ≤ maxCall
+      → den row r * c .offers + num row r ≤ length (c .out) * num row r → after h c .consumed ≡ h .consumed + c .offers
+  reads-its-own left offers-to room-to room = elim (below-or-not 0 (c .offers)) [
+    | inl some ↦
+        (ap (λ (d : Called). d .turn .consumed) (numbers-after (is-accepted some (omega arith) (omega arith) room-to))
+        ∙ one-more-reads-its-own (rateFor row r) (rate-fit row sane r m) (done h .numbers) (offer row r h c) so-far left room)
+    | inr none ↦
+        (let stays = refused-stays row r h c p EmptyInput (empty-refused (omega (arith, input-length))) in
+        ap (λ (d : Progress). d .consumed) stays ∙ omega arith)
   ]
 
 -- ---- the next call

@@ -10,7 +10,7 @@ use Rattle.timeline.specs.Numbers.{Rate, Place, Called, Fit, chunk, ahea
 use Rattle.timeline.specs.Recording.{Offer, recorded, oneMore, calls}
 use Rattle.timeline.specs.Laws.{Ceiling, upwards}
 use Rattle.timeline.proofs.Places.{below-or-not, ahead-reach, ahead-phase, made-ends}
-use Rattle.timeline.proofs.Turns.{Moved, one-more-moves}
+use Rattle.timeline.proofs.Turns.{Moved, call-moves, one-more-moves}
 use Rattle.timeline.proofs.Law.{recorded-moves, recording-law}
 use Rattle.timeline.proofs.Unrolled.{call-plain}
 
@@ -109,4 +109,32 @@ module _ (r : Rate) (fit : Fit r) where
             (let all : d .turn .consumed ≡ inn = rw z (plain-call-reads inn (o .room) (c .turn .place) (rw z at l)) in
             omega (arith, a .consumed))
         | inr g ↦ absurd (omega (arith, never-more M (one-more-moves r o c a)))
+      ]
+
+  -- a call cannot fill a room for more outputs than its samples lead to: the last would lie past them
+  full-room : (p : Place) (inn room : ℕ) → p .phase < r .den → r .den * inn + r .num ≤ room * r .num → room ≤ call r 0 inn room p .turn .written → ⊥
+  full-room p inn zero ph w g = omega (arith, fit .num)
+  full-room p inn (suc j) ph w g =
+      let q = ahead r j p in
+      let position : q .position < inn = omega (arith, call-moves r 0 inn (suc j) p .below j g) in
+      omega (arith, ahead-reach r j p, under (r .den) (q .position) (q .phase) inn (ahead-phase r (fit .den) j p ph) position)
+
+  -- the phase that outputs from the first place led to
+  phase-below : {len : ℕ} (c : Called) → Moved r 0 len (fresh r) c → c .turn .place .phase < r .den
+  phase-below c a = rw (ap (λ (q : Place). q .phase) (a .place)) (ahead-phase r (fit .den) (c .turn .written) (fresh r) (fit .den))
+
+  -- one call more that is offered no more samples than are left, with more room than the outputs that they can lead to: it reads them all
+  pub one-more-reads-its-own : {len : ℕ} (c : Called) (o : Offer) → Moved r 0 len (fresh r) c → c .turn .consumed + o .samples ≤ len
+      → r .den * o .samples + r .num ≤ o .room * r .num → oneMore r len o c .turn .consumed ≡ c .turn .consumed + o .samples
+  one-more-reads-its-own {len} c o a fits w =
+      let p = c .turn .place in
+      let inn = min (o .samples) (len - c .turn .consumed) in
+      let d = call r (c .magic) inn (o .room) p in
+      let z : c .magic ≡ 0 = omega (arith, a .magic) in
+      let least : inn ≤ o .samples = omega arith in
+      elim (below-or-not (d .turn .written) (o .room)) [
+        | inl l ↦
+            (let all : d .turn .consumed ≡ inn = rw z (plain-call-reads inn (o .room) p (rw z at l)) in
+            omega arith)
+        | inr g ↦ absurd (full-room p inn (o .room) (phase-below c a) (omega (arith, mul-le-mul-left (r .den) least)) (rw z at g))
       ]

@@ -1,0 +1,2 @@
+-- Laws of blocks. Assumes nothing.
+pub mod Laws
