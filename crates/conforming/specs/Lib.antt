@@ -1,3 +1,2 @@
--- What the small program makes of a file, and how it goes about it. Assumes nothing.
-pub mod Conformed
-pub mod Program
+-- How a run of the small program may end. Assumes nothing.
+pub mod Endings

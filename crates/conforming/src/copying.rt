@@ -3,8 +3,7 @@ use crate::Ending;
 use crate::files;
 use crate::files::Next;
 ghost use Prim.Native.Nat.{_≤_};
-ghost use lib.ListN.{length};
-ghost use Rattle.conforming.specs.Program.{Ends};
+ghost use Rattle.conforming.specs.Endings.{Ends};
 
 // What a turn leaves: how many bytes are held at the front, the first of a sample or none, and what
 // comes next.
@@ -14,28 +13,19 @@ pub struct Copied {
 }
 
 // Reads once behind the byte held, and writes the bytes of the whole samples.
-fn copy_some(input: i32, output: i32, bytes: &mut [u8], held: usize) -> Copied
-    requires { ⌜ held ≤ length (now bytes) ⌝ }
+fn copy_some(input: i32, output: i32, bytes: &mut [u8; 2048], held: usize) -> Copied
+    requires { ⌜ held ≤ 1 ⌝ }
     ensures { λ r. ⌜ r .held ≤ 1 ⌝ }
 {
-    let got = files::read_some(input, &mut bytes[held..]);
+    let got = files::read_behind(input, bytes, held);
     if got.count == 0 {
         let next = files::after_nothing(got.failed);
         return Copied { held: 0, next };
     }
     let n = held + got.count;
-    let whole = n - n % 2;
-    let next = files::after_write(files::write(output, &bytes[..whole]));
-    let odd = stages::keep_odd(bytes, n);
+    let next = files::after_write(files::write_first(output, bytes, n - n % 2));
+    let odd = edges::keep_odd(bytes, n);
     Copied { held: odd, next }
-}
-
-// The array as a slice. A callee that takes a whole array asks the loop for no proof of its length.
-fn copy_turn(input: i32, output: i32, bytes: &mut [u8; 2048], held: usize) -> Copied
-    requires { ⌜ held ≤ 1 ⌝ }
-    ensures { λ r. ⌜ r .held ≤ 1 ⌝ }
-{
-    copy_some(input, output, bytes, held)
 }
 
 // A proved loop has to end, and nothing says that the input does: the turns count down, from a number
@@ -48,7 +38,7 @@ pub fn copy(input: i32, output: i32) -> Ending
     let mut next = Next::More;
     let mut turns = u64::MAX;
     while turns > 0 && files::goes_on(next) {
-        let turn = copy_turn(input, output, &mut bytes, held);
+        let turn = copy_some(input, output, &mut bytes, held);
         held = turn.held;
         let then = turn.next;
         next = then;

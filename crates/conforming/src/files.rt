@@ -1,10 +1,10 @@
 // Reading and writing, with a line on standard error where the system refuses. No contract can say which
 // bytes were read or written; these say how many there can be.
 use crate::Ending;
-ghost use Prim.Native.Nat.{_≤_};
+ghost use Prim.Native.Nat.{_+_, _≤_};
 ghost use lib.ListN.{length};
 ghost use Rattle.io.specs.Counts.{Counts};
-ghost use Rattle.conforming.specs.Program.{Ends};
+ghost use Rattle.conforming.specs.Endings.{Ends};
 
 // What comes after a turn of a loop: another turn, the end of the input, or an end before it.
 pub enum Next {
@@ -93,9 +93,19 @@ pub fn read_full(fd: i32, bytes: &mut [u8]) -> Got
     }
 }
 
-// Writes all of the bytes, and answers whether the system took them.
-pub fn write(fd: i32, bytes: &[u8]) -> bool {
-    let all = io::write_all(fd, bytes);
+// One read behind the bytes that are held at the front.
+pub fn read_behind(fd: i32, bytes: &mut [u8], held: usize) -> Got
+    requires { ⌜ held ≤ length (now bytes) ⌝ }
+    ensures { λ r. ⌜ held + r .count ≤ length (now (bytes .entry)) ⌝ }
+{
+    read_some(fd, &mut bytes[held..])
+}
+
+// Writes the first bytes, so many, and answers whether the system took them.
+pub fn write_first(fd: i32, bytes: &[u8], size: usize) -> bool
+    requires { ⌜ size ≤ length (now bytes) ⌝ }
+{
+    let all = io::write_all(fd, &bytes[..size]);
     if !all {
         os::fail(b"conform: cannot write");
     }

@@ -1,15 +1,16 @@
 // The small program: reads a file, pulls its sound onto the target rate of its header, and writes what
 // comes out.
 //
-// What it makes of the bytes is proved of `pcm` and `stages` (proofs/Theorems.antt: however a file is cut
-// into reads, the blocks handed on to be written are `conformed` of it). Here are only the reads, the
-// writes and the loops between them. Nothing grows with the file.
+// What it makes of the bytes is proved of `pcm` and `stages`, and put together in `conformed`: however a
+// file is cut into reads, the blocks handed on to be written are `conformed` of it. Here are only the
+// reads, the writes and the loops between them. Nothing grows with the file.
 use judge::Refusal;
 use pcm::Header;
 ghost use mathlib.Core.Path.{_≡_};
 ghost use Rattle.judge.specs.Refusals.{refusalNumber};
-ghost use Rattle.conforming.specs.Conformed.{refusalLine};
-ghost use Rattle.conforming.specs.Program.{OfAHeader, Ends};
+ghost use Rattle.conformed.specs.Conformed.{refusalLine};
+ghost use Rattle.conformed.specs.Program.{OfAHeader};
+ghost use Rattle.conforming.specs.Endings.{Ends};
 
 mod copying;
 mod files;
@@ -52,7 +53,7 @@ fn refuse(output: i32, refusal: Refusal) -> Ending
     ensures { λ r. ⌜ Ends r ⌝ }
 {
     let line = refusal_line(refusal);
-    if files::write(output, &line) {
+    if files::write_first(output, &line, 10) {
         return Ending::Refused(refusal);
     }
     Ending::WriteFailed

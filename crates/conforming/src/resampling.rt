@@ -5,10 +5,9 @@ use crate::files;
 use crate::files::Next;
 use resampler::ResamplerState;
 use stages::Kept;
-ghost use Prim.Native.Nat.{_*_, _/_, _≤_};
-ghost use lib.ListN.{length};
+ghost use Prim.Native.Nat.{_≤_};
 ghost use Rattle.sizes.specs.Sizes.{InLimits};
-ghost use Rattle.conforming.specs.Program.{Ends};
+ghost use Rattle.conforming.specs.Endings.{Ends};
 
 // What a turn leaves: what is kept, and what comes next.
 pub struct Turned {
@@ -21,20 +20,18 @@ fn resample_some(
     input: i32,
     output: i32,
     kept: Kept,
-    mem: &mut [f32],
-    coefs: &[f32],
-    bytes: &mut [u8],
-    samples: &mut [f32],
-    out: &mut [f32],
-    text: &mut [u8],
+    mem: &mut [f32; 7839],
+    coefs: &[f32; 7688],
+    bytes: &mut [u8; 2048],
+    samples: &mut [f32; 3840],
+    out: &mut [f32; 49153],
+    text: &mut [u8; 98306],
 ) -> Turned
-    requires { ⌜ kept .held ≤ length (now bytes) ⌝ }
-    requires { ⌜ length (now bytes) / 2 ≤ length (now samples) ⌝ }
-    requires { ⌜ 2 * length (now out) ≤ length (now text) ⌝ }
+    requires { ⌜ kept .held ≤ 1 ⌝ }
     ensures { λ r. ⌜ r .kept .held ≤ 1 ⌝ }
 {
     let held = kept.held;
-    let got = files::read_some(input, &mut bytes[held..]);
+    let got = files::read_behind(input, bytes, held);
     if got.count == 0 {
         return nothing_read(kept, got.failed);
     }
@@ -49,7 +46,7 @@ fn resample_some(
         text,
     );
     let size = fed.size;
-    let next = files::after_write(files::write(output, &text[..size]));
+    let next = files::after_write(files::write_first(output, text, size));
     Turned { kept: fed, next }
 }
 
@@ -66,24 +63,6 @@ fn nothing_read(kept: Kept, failed: bool) -> Turned
         size: 0,
     };
     Turned { kept: whole, next }
-}
-
-// The arrays as slices. A callee that takes whole arrays asks the loop for no proof of their lengths.
-fn resample_turn(
-    input: i32,
-    output: i32,
-    kept: Kept,
-    mem: &mut [f32; 7839],
-    coefs: &[f32; 7688],
-    bytes: &mut [u8; 2048],
-    samples: &mut [f32; 3840],
-    out: &mut [f32; 49153],
-    text: &mut [u8; 98306],
-) -> Turned
-    requires { ⌜ kept .held ≤ 1 ⌝ }
-    ensures { λ r. ⌜ r .kept .held ≤ 1 ⌝ }
-{
-    resample_some(input, output, kept, mem, coefs, bytes, samples, out, text)
 }
 
 // The state, and the filter's length with it: at most 7,680, so that half of it fits the samples.
@@ -115,8 +94,7 @@ fn resample_close(
 {
     let closed = stages::close(kept, filt_len, mem, coefs, samples, out, text);
     let size = closed.size;
-    let view: &[u8] = text;
-    if files::write(output, &view[..size]) {
+    if files::write_first(output, text, size) {
         return Ending::Conformed;
     }
     Ending::WriteFailed
@@ -144,7 +122,7 @@ pub fn resample(input: i32, output: i32, source: u32, target: u32) -> Ending
     let mut next = Next::More;
     let mut turns = u64::MAX;
     while turns > 0 && files::goes_on(next) {
-        let turn = resample_turn(
+        let turn = resample_some(
             input,
             output,
             kept,

@@ -1,13 +1,13 @@
 -- What a block leaves, from what each of its steps ensures. Assumes nothing.
-use mathlib.Core.Path.{_≡_, refl, sym, _∙_, ap}
-use mathlib.Core.Bool.{Bool, true, false, _||_}
-use mathlib.Core.List.{List, [], _∷_, _++_}
-use Prim.Native.Nat.{ℕ, zero, suc, _-_, _*_, _/_, _%_, _≤_}
+use mathlib.Core.Path.{_≡_, sym, _∙_, ap}
+use mathlib.Core.Bool.{Bool, _||_}
+use mathlib.Core.List.{List, _++_}
+use Prim.Native.Nat.{ℕ, _*_, _/_, _≤_}
 use native.Mathlib.Omega.{arith}
 use lib.Dec.{ltb}
 use lib.Ieee.{Float}
-use lib.ListN.{length, getD, set, take, drop, replicate, length-take, length-drop, length-replicate, take-append-drop}
-use lib.Seq.{take-all, length-paste, take-suc, take-suc-set, take-take, take-append-seam, drop-append-seam}
+use lib.ListN.{length, take, drop, replicate, length-take, length-replicate, take-append-drop}
+use lib.Seq.{take-all, length-paste, take-take, take-append-seam}
 use Rattle.math.specs.Numerals.{nought}
 use Rattle.history.specs.Zeroed.{zeroed}
 use Rattle.timeline.proofs.Parts.{take-front}
@@ -21,7 +21,8 @@ use Rattle.resampler.specs.declared.Answer.{Answer}
 use Rattle.pinned.proofs.Untouched.{process-keeps-rest}
 use Rattle.pcm.specs.Blocks.{samplesOf, bytesOf, laidOver, Decodes, Encodes}
 use Rattle.pcm.proofs.Blocks.{length-samples, length-bytes}
-use Rattle.stages.specs.Stages.{Stage, oddOf, closingZeros, closing}
+use Rattle.edges.specs.Edges.{oddOf, closingZeros, closing}
+use Rattle.stages.specs.Stages.{Stage}
 use Rattle.stages.specs.Contracts.{bareStage, stageOf, Opens, HandedOn, Pulls, Feeds}
 use Rattle.stages.specs.declared.Kept.{Kept}
 use Rattle.stages.specs.declared.Pulled.{Pulled}
@@ -92,11 +93,6 @@ module _ {s : ResamplerState} {mem coefs input out : List Float} {answer : Answe
 
 -- ---- the zeros
 
--- no more than half the filter's length
-pub zeros-to : (came : Bool) (n : ℕ) → closingZeros came n ≤ n / 2
-zeros-to true n = omega arith
-zeros-to false n = omega arith
-
 module _ (samples samples' : List Float) (count : ℕ) (e : samples' ≡ zeroed samples 0 count) where
   pub zeros-fit : count ≤ length samples → count ≤ length samples'
   zeros-fit h = omega (arith, ap length e ∙ length-paste samples 0 (replicate count nought) count (omega arith) (omega (arith, length-replicate count nought)))
@@ -112,34 +108,10 @@ module _ (samples samples' : List Float) (count : ℕ) (e : samples' ≡ zeroed 
       → count ≡ closingZeros came n → Pulls g (take count samples') text p mem' out' text' → Pulls g (closing came n) text p mem' out' text'
   closes came n c q = rw (← c, ← zeros-are) q
 
--- ---- an odd byte
-empty : (l : List ℕ) → length l ≡ 0 → l ≡ []
-empty [] h = refl
-empty (x ∷ l) h = absurd (omega arith)
-
+-- ---- the bytes of a block
 -- the first n bytes, cut anywhere
 pub cut-at : (held n : ℕ) (bytes : List ℕ) → held ≤ n → take held bytes ++ drop held (take n bytes) ≡ take n bytes
 cut-at held n bytes h = ap (λ (l : List ℕ). l ++ drop held (take n bytes)) (sym (take-take held n bytes h)) ∙ take-append-drop held (take n bytes)
-
-module _ (bytes : List ℕ) (n : ℕ) (within : n ≤ length bytes) where
-  long : length (take n bytes) ≡ n
-  long = length-take n bytes ∙ omega arith
-
-  pub none-odd : n % 2 ≡ 0 → [] ≡ oddOf (take n bytes)
-  none-odd h = sym (empty (oddOf (take n bytes)) (length-drop (2 * (length (take n bytes) / 2)) (take n bytes) ∙ omega (arith, long)))
-
--- the last byte, put to the front
-pub one-odd : (bytes : List ℕ) (n : ℕ) → n ≤ length bytes → n % 2 ≡ 1 → take 1 (set bytes 0 (getD bytes (n - 1) 0)) ≡ oddOf (take n bytes)
-one-odd bytes zero within h = absurd (omega arith)
-one-odd bytes (suc q) within h =
-    let last = getD bytes q 0 ∷ [] in
-    let before : 2 * (length (take (suc q) bytes) / 2) ≡ length (take q bytes) = omega (arith, length-take (suc q) bytes, length-take q bytes) in
-    let place : suc q - 1 ≡ q = omega arith in
-    take-suc-set bytes 0 (getD bytes (suc q - 1) 0) (omega arith)
-    ∙ ap (λ (k : ℕ). getD bytes k 0 ∷ []) place
-    ∙ sym (drop-append-seam (take q bytes) last)
-    ∙ ap (λ (l : List ℕ). drop (length (take q bytes)) l) (sym (take-suc bytes q 0 within))
-    ∙ ap (λ (k : ℕ). drop k (take (suc q) bytes)) (sym before)
 
 -- ---- one block
 pub feeds : (k r : Kept) (bytes bytes' : List ℕ) (n : ℕ) {mem coefs out mem' out' samples samples' : List Float} {text text' : List ℕ} {count : ℕ} {p : Pulled}

@@ -1,23 +1,16 @@
 -- Document 01, "Small program": what the program keeps between two reads of a file whose rates differ, what each read makes of it, and the block of bytes
 -- that is handed on to be written. Assumes nothing.
-use mathlib.Core.Bool.{Bool, false, cond, _||_}
+use mathlib.Core.Bool.{Bool, false, _||_}
 use mathlib.Core.List.{List, [], _++_}
-use Prim.Native.Nat.{ℕ, _*_, _/_}
+use Prim.Native.Nat.{ℕ, _/_}
 use lib.Dec.{ltb}
 use lib.Ieee.{Float}
-use lib.ListN.{length, take, drop, replicate}
-use Rattle.math.specs.Numerals.{nought}
+use lib.ListN.{length, take}
 use Rattle.quality.specs.House.{house}
 use Rattle.state.specs.declared.ResamplerState.{ResamplerState}
 use Rattle.resampler.specs.Entries.{newTold, rateTold, rateHistory, rateCoefficients, processTold, processHistory, processOutput}
+use Rattle.edges.specs.Edges.{oddOf}
 use Rattle.pcm.specs.Blocks.{samplesOf, bytesOf}
-
--- the bytes of the whole samples of a block, and the odd byte after them, if there is one
-abbrev pub wholeOf : List ℕ → List ℕ
-wholeOf bytes = take (2 * (length bytes / 2)) bytes
-
-abbrev pub oddOf : List ℕ → List ℕ
-oddOf bytes = drop (2 * (length bytes / 2)) bytes
 
 -- what is kept: the resampler's state and slices, the output that it is lent, an odd byte whose sample is not whole yet, and whether any sample came
 pub record Stage : Type 0 where
@@ -75,10 +68,3 @@ module _ (g : Stage) (read : List ℕ) where
         held = oddOf block;
         came = g .came || ltb 0 (length block / 2);
       }
-
--- the zeros that follow the samples: n/2, if any sample came
-abbrev pub closingZeros : Bool → ℕ → ℕ
-closingZeros came n = cond came (n / 2) 0
-
-abbrev pub closing : Bool → ℕ → List Float
-closing came n = replicate (closingZeros came n) nought

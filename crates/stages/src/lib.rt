@@ -8,7 +8,7 @@ ghost use mathlib.Core.Path.{_≡_};
 ghost use Prim.Native.Nat.{_*_, _/_, _≤_};
 ghost use lib.ListN.{length, take, drop};
 ghost use Rattle.resampler.specs.Answers.{told};
-ghost use Rattle.stages.specs.Stages.{oddOf, closingZeros, closing};
+ghost use Rattle.edges.specs.Edges.{closing};
 ghost use Rattle.stages.specs.Contracts.{bareStage, stageOf, Opens, Pulls, Feeds};
 
 // What is kept between two reads. `held` is 1 where the first byte of a sample stands at the start of
@@ -77,20 +77,6 @@ pub fn pull(
     }
 }
 
-// Puts an odd last byte of the first n to the front, for the next block to begin with. Answers how
-// many bytes that is.
-pub fn keep_odd(bytes: &mut [u8], n: usize) -> usize
-    requires { ⌜ n ≤ length (now bytes) ⌝ }
-    ensures { λ r. ⌜ take r (now (bytes .exit)) ≡ oddOf (take n (now (bytes .entry))) ⌝ }
-    ensures { λ r. ⌜ r ≤ 1 ⌝ }
-{
-    if n % 2 == 0 {
-        return 0;
-    }
-    bytes[0] = bytes[n - 1];
-    1
-}
-
 // A block of n bytes, the byte held at its front: its whole samples go through the resampler.
 pub fn feed(
     kept: Kept,
@@ -111,7 +97,7 @@ pub fn feed(
     let state = kept.state;
     let count = pcm::decode(&bytes[..n], samples);
     let pulled = pull(state, mem, coefs, &samples[..count], out, text);
-    let held = keep_odd(bytes, n);
+    let held = edges::keep_odd(bytes, n);
     let state = pulled.state;
     Kept {
         state,
@@ -119,16 +105,6 @@ pub fn feed(
         came: kept.came | (count > 0),
         size: pulled.size,
     }
-}
-
-// How many zeros follow the samples, for a filter of this length.
-pub fn closing_zeros(came: bool, filt_len: u32) -> usize
-    ensures { λ r. ⌜ r ≡ closingZeros came «filt_len» ⌝ }
-{
-    if came {
-        return (filt_len / 2) as usize;
-    }
-    0
 }
 
 // The zeros that follow the samples go through the resampler.
@@ -146,7 +122,7 @@ pub fn close(
     ensures { λ r. ⌜ Pulls (bareStage (kept .state) (now (mem .entry)) (now (coefs .entry)) (now (out .entry))) (closing (kept .came) «filt_len») (now (text .entry)) r (now (mem .exit)) (now (out .exit)) (now (text .exit)) ⌝ }
 {
     let state = kept.state;
-    let count = closing_zeros(kept.came, filt_len);
+    let count = edges::closing_zeros(kept.came, filt_len);
     history::fill_zero(samples, 0, count);
     pull(state, mem, coefs, &samples[..count], out, text)
 }

@@ -1,8 +1,8 @@
 -- `conforming::refusal_line` meets its contract: every refusal's number is one digit. Assumes nothing.
 use native.Mathlib.Omega.{arith}
 use mathlib.Core.Path.{ap}
-use Rattle.conforming.specs.Conformed.{refusalLine}
-use Rattle.conforming.proofs.Headers.{one-digit}
+use Rattle.conformed.specs.Conformed.{refusalLine}
+use Rattle.conformed.proofs.Headers.{one-digit}
 use borrow.Author.Needs.{needs}
 use Rattle.conforming.proofs.refusal_line.Statement.{statement}
 use Rattle.conforming.proofs.refusal_line.Tie as tie

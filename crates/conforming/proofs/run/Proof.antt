@@ -1,6 +1,6 @@
 -- `conforming::run` meets its contract: a refusal is the header's, and rates that are not refused are in limits. Assumes nothing.
 use mathlib.Core.Path.{sym, _∙_}
-use Rattle.conforming.proofs.Headers.{rates-in-limits, refused-header}
+use Rattle.conformed.proofs.Headers.{rates-in-limits, refused-header}
 use borrow.Author.Needs.{needs}
 use Rattle.conforming.proofs.run.Statement.{statement}
 use Rattle.conforming.proofs.run.Tie as tie

@@ -2,7 +2,8 @@
 use mathlib.Core.Path.{sym}
 use lib.Seq.{length-take-le}
 use native.Mathlib.Omega.{arith}
-use Rattle.stages.proofs.Laws.{zeros-to, zeros-fit, closes}
+use Rattle.edges.proofs.Laws.{zeros-to}
+use Rattle.stages.proofs.Laws.{zeros-fit, closes}
 use borrow.Author.Needs.{needs}
 use Rattle.stages.proofs.close.Statement.{statement}
 use Rattle.stages.proofs.close.Tie as tie

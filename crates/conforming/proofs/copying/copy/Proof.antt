@@ -16,8 +16,8 @@ loop-holds c = omega arith
 goes-on-requires : tie.Need-goes-on-requires Inv-loop μ-loop
 goes-on-requires c κs = tt
 
-copy-turn-requires : tie.Need-copy-turn-requires Inv-loop μ-loop
-copy-turn-requires c κs = omega arith
+copy-some-requires : tie.Need-copy-some-requires Inv-loop μ-loop
+copy-some-requires c κs = omega arith
 
 sub-turns : tie.Need-sub-turns Inv-loop μ-loop
 sub-turns c = omega arith
@@ -42,7 +42,7 @@ copy-spec =
     μ-loop
     loop-holds
     goes-on-requires
-    copy-turn-requires
+    copy-some-requires
     sub-turns
     loop-less
     loop-again

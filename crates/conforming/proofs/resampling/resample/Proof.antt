@@ -22,8 +22,8 @@ loop-holds c = (omega arith, c .resample-open .ensures)
 goes-on-requires : tie.Need-goes-on-requires Inv-loop μ-loop
 goes-on-requires c κs = tt
 
-resample-turn-requires : tie.Need-resample-turn-requires Inv-loop μ-loop
-resample-turn-requires c κs = omega arith
+resample-some-requires : tie.Need-resample-some-requires Inv-loop μ-loop
+resample-some-requires c κs = omega arith
 
 sub-turns : tie.Need-sub-turns Inv-loop μ-loop
 sub-turns c = omega arith
@@ -58,7 +58,7 @@ resample-spec =
     resample-open-requires
     loop-holds
     goes-on-requires
-    resample-turn-requires
+    resample-some-requires
     sub-turns
     loop-less
     loop-again

@@ -7,7 +7,7 @@ use lib.ListN.{length}
 use Rattle.sizes.specs.Sizes.{maxHistory, maxCoefficients}
 use Rattle.rates.proofs.House.{house-length}
 use Rattle.state.specs.declared.ResamplerState.{ResamplerState}
-use Rattle.conforming.proofs.Opened.{filter-length}
+use Rattle.conformed.proofs.Opened.{filter-length}
 use borrow.Author.Needs.{needs}
 use Rattle.conforming.proofs.resampling.resample_open.Statement.{statement}
 use Rattle.conforming.proofs.resampling.resample_open.Tie as tie

@@ -1,0 +1,2 @@
+-- Laws of an odd byte and of the zeros. Assumes nothing.
+pub mod Laws

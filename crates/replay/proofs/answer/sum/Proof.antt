@@ -1,0 +1,51 @@
+-- `replay::answer::sum` is safe and ends. The invariant: the index is within the samples, and the sum below its modulus. The measure is how many samples are left. Assumes nothing.
+use Prim.Native.Nat.{_≤_, _<_, _-_}
+use lib.ListN.{length}
+use borrow.Author.Needs.{needs}
+use Rattle.replay.proofs.answer.sum.Statement.{statement}
+use Rattle.replay.proofs.answer.sum.Tie as tie
+
+abbrev Inv-loop : tie.InvT-loop
+Inv-loop samples sum₀ i₀ sum i = (i ≤ length samples) × (sum < 4294967291)
+
+abbrev μ-loop : tie.MeasureT-loop
+μ-loop samples sum₀ i₀ sum i = length samples - i
+
+loop-holds : tie.Need-loop-holds Inv-loop μ-loop
+loop-holds c = search needs
+
+mul-summed : tie.Need-mul-summed Inv-loop μ-loop
+mul-summed c = search needs
+
+shared-slice-read-summed : tie.Need-shared-slice-read-summed Inv-loop μ-loop
+shared-slice-read-summed c = search needs
+
+summed-requires : tie.Need-summed-requires Inv-loop μ-loop
+summed-requires c κs = search needs
+
+add-i : tie.Need-add-i Inv-loop μ-loop
+add-i c = search needs
+
+loop-less : tie.Need-loop-less Inv-loop μ-loop
+loop-less c = search needs
+
+loop-again : tie.Need-loop-again Inv-loop μ-loop
+loop-again c = search needs
+
+returns : tie.Need-returns Inv-loop μ-loop
+returns c = search needs
+
+pub sum-spec : {M : Type 1} → statement M
+sum-spec =
+    tie.close
+    (tie.spec
+    Inv-loop
+    μ-loop
+    loop-holds
+    mul-summed
+    shared-slice-read-summed
+    summed-requires
+    add-i
+    loop-less
+    loop-again
+    returns)

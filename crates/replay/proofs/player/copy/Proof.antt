@@ -1,0 +1,64 @@
+-- `replay::player::copy` is safe and ends. The invariant: the slice keeps its length. The measure is how many entries are left. Assumes nothing.
+use Prim.Native.Nat.{_-_}
+use mathlib.Core.Path.{_≡_}
+use lib.ListN.{length}
+use borrow.Author.Needs.{needs}
+use Rattle.replay.proofs.player.copy.Statement.{statement}
+use Rattle.replay.proofs.player.copy.Tie as tie
+
+abbrev Inv-loop : tie.InvT-loop
+Inv-loop samples₀ index input count i₀ samples i = length samples ≡ length samples₀
+
+abbrev μ-loop : tie.MeasureT-loop
+μ-loop samples₀ index input count i₀ samples i = count - i
+
+loop-holds : tie.Need-loop-holds Inv-loop μ-loop
+loop-holds c = search needs
+
+mul-samples : tie.Need-mul-samples Inv-loop μ-loop
+mul-samples c = search needs
+
+shared-slice-read-samples : tie.Need-shared-slice-read-samples Inv-loop μ-loop
+shared-slice-read-samples c = search needs
+
+add-samples : tie.Need-add-samples Inv-loop μ-loop
+add-samples c = search needs
+
+mul-samples-2 : tie.Need-mul-samples-2 Inv-loop μ-loop
+mul-samples-2 c = search needs
+
+slice-write-samples : tie.Need-slice-write-samples Inv-loop μ-loop
+slice-write-samples c = search needs
+
+add-i : tie.Need-add-i Inv-loop μ-loop
+add-i c = search needs
+
+loop-less : tie.Need-loop-less Inv-loop μ-loop
+loop-less c = search needs
+
+loop-again : tie.Need-loop-again Inv-loop μ-loop
+loop-again c = search needs
+
+same-length : tie.Need-same-length Inv-loop μ-loop
+same-length c = search needs
+
+returns : tie.Need-returns Inv-loop μ-loop
+returns c = search needs
+
+pub copy-spec : {M : Type 1} → statement M
+copy-spec =
+    tie.close
+    (tie.spec
+    Inv-loop
+    μ-loop
+    loop-holds
+    mul-samples
+    shared-slice-read-samples
+    add-samples
+    mul-samples-2
+    slice-write-samples
+    add-i
+    loop-less
+    loop-again
+    same-length
+    returns)

@@ -1,0 +1,52 @@
+-- `replay::player::set` is safe and ends. The invariant: the slice keeps its length. The measure is how many entries are left. Assumes nothing.
+use Prim.Native.Nat.{_-_}
+use mathlib.Core.Path.{_≡_}
+use lib.ListN.{length}
+use borrow.Author.Needs.{needs}
+use Rattle.replay.proofs.player.set.Statement.{statement}
+use Rattle.replay.proofs.player.set.Tie as tie
+
+abbrev Inv-loop : tie.InvT-loop
+Inv-loop samples₀ from to value i₀ samples i = length samples ≡ length samples₀
+
+abbrev μ-loop : tie.MeasureT-loop
+μ-loop samples₀ from to value i₀ samples i = to - i
+
+loop-holds : tie.Need-loop-holds Inv-loop μ-loop
+loop-holds c = search needs
+
+mul-samples : tie.Need-mul-samples Inv-loop μ-loop
+mul-samples c = search needs
+
+slice-write-samples : tie.Need-slice-write-samples Inv-loop μ-loop
+slice-write-samples c = search needs
+
+add-i : tie.Need-add-i Inv-loop μ-loop
+add-i c = search needs
+
+loop-less : tie.Need-loop-less Inv-loop μ-loop
+loop-less c = search needs
+
+loop-again : tie.Need-loop-again Inv-loop μ-loop
+loop-again c = search needs
+
+same-length : tie.Need-same-length Inv-loop μ-loop
+same-length c = search needs
+
+returns : tie.Need-returns Inv-loop μ-loop
+returns c = search needs
+
+pub set-spec : {M : Type 1} → statement M
+set-spec =
+    tie.close
+    (tie.spec
+    Inv-loop
+    μ-loop
+    loop-holds
+    mul-samples
+    slice-write-samples
+    add-i
+    loop-less
+    loop-again
+    same-length
+    returns)
