@@ -9,6 +9,23 @@ ghost use Prim.Native.Nat.{_≤_};
 ghost use Rattle.sizes.specs.Sizes.{InLimits};
 ghost use Rattle.conforming.specs.Endings.{Ends};
 
+// Enough history and coefficients for any two rates in limits.
+const HISTORY: usize = 7839;
+
+const COEFFICIENTS: usize = 7688;
+
+// What one read brings at most. With the byte held these are 1,024 samples, each of which leads to 48
+// outputs at most; there is room for one more, so that every call reads all that it is offered.
+const READ: usize = 2048;
+
+const OUTPUTS: usize = 49153;
+
+// Two bytes for each output.
+const TEXT: usize = 98306;
+
+// Half of the longest filter, and more than the samples of a read.
+const SAMPLES: usize = 3840;
+
 // What a turn leaves: what is kept, and what comes next.
 pub struct Turned {
     pub kept: Kept,
@@ -20,12 +37,12 @@ fn resample_some(
     input: i32,
     output: i32,
     kept: Kept,
-    mem: &mut [f32; 7839],
-    coefs: &[f32; 7688],
-    bytes: &mut [u8; 2048],
-    samples: &mut [f32; 3840],
-    out: &mut [f32; 49153],
-    text: &mut [u8; 98306],
+    mem: &mut [f32; HISTORY],
+    coefs: &[f32; COEFFICIENTS],
+    bytes: &mut [u8; READ],
+    samples: &mut [f32; SAMPLES],
+    out: &mut [f32; OUTPUTS],
+    text: &mut [u8; TEXT],
 ) -> Turned
     requires { ⌜ kept .held ≤ 1 ⌝ }
     ensures { λ r. ⌜ r .kept .held ≤ 1 ⌝ }
@@ -69,8 +86,8 @@ fn nothing_read(kept: Kept, failed: bool) -> Turned
 fn resample_open(
     source: u32,
     target: u32,
-    mem: &mut [f32; 7839],
-    coefs: &mut [f32; 7688],
+    mem: &mut [f32; HISTORY],
+    coefs: &mut [f32; COEFFICIENTS],
 ) -> ResamplerState
     requires { ⌜ InLimits source × InLimits target ⌝ }
     ensures { λ r. ⌜ r .«filt_len» ≤ 7680 ⌝ }
@@ -83,11 +100,11 @@ fn resample_close(
     output: i32,
     kept: Kept,
     filt_len: u32,
-    mem: &mut [f32; 7839],
-    coefs: &[f32; 7688],
-    samples: &mut [f32; 3840],
-    out: &mut [f32; 49153],
-    text: &mut [u8; 98306],
+    mem: &mut [f32; HISTORY],
+    coefs: &[f32; COEFFICIENTS],
+    samples: &mut [f32; SAMPLES],
+    out: &mut [f32; OUTPUTS],
+    text: &mut [u8; TEXT],
 ) -> Ending
     requires { ⌜ «filt_len» ≤ 7680 ⌝ }
     ensures { λ r. ⌜ Ends r ⌝ }
@@ -100,19 +117,18 @@ fn resample_close(
     Ending::WriteFailed
 }
 
-// The turns count down, as where bytes are copied.
-pub fn resample(input: i32, output: i32, source: u32, target: u32) -> Ending
-    requires { ⌜ InLimits source × InLimits target ⌝ }
-    ensures { λ r. ⌜ Ends r ⌝ }
-{
-    let mut mem = [0.0f32; 7839];
-    let mut coefs = [0.0f32; 7688];
-    let mut bytes = [0u8; 2048];
-    let mut samples = [0.0f32; 3840];
-    let mut out = [0.0f32; 49153];
-    let mut text = [0u8; 98306];
-    let state = resample_open(source, target, &mut mem, &mut coefs);
-    let filt_len = state.filt_len;
+// Reads to the end, or to what the system refuses. The turns count down, as where bytes are copied.
+fn resample_all(
+    input: i32,
+    output: i32,
+    state: ResamplerState,
+    mem: &mut [f32; HISTORY],
+    coefs: &[f32; COEFFICIENTS],
+    samples: &mut [f32; SAMPLES],
+    out: &mut [f32; OUTPUTS],
+    text: &mut [u8; TEXT],
+) -> Turned {
+    let mut bytes = [0u8; READ];
     let mut kept = Kept {
         state,
         held: 0,
@@ -126,12 +142,12 @@ pub fn resample(input: i32, output: i32, source: u32, target: u32) -> Ending
             input,
             output,
             kept,
-            &mut mem,
-            &coefs,
+            mem,
+            coefs,
             &mut bytes,
-            &mut samples,
-            &mut out,
-            &mut text,
+            samples,
+            out,
+            text,
         );
         let after = turn.kept;
         kept = after;
@@ -139,9 +155,36 @@ pub fn resample(input: i32, output: i32, source: u32, target: u32) -> Ending
         next = then;
         turns -= 1;
     }
+    Turned { kept, next }
+}
+
+// The arrays, the first rate, the reads, and then the zeros.
+pub fn resample(input: i32, output: i32, source: u32, target: u32) -> Ending
+    requires { ⌜ InLimits source × InLimits target ⌝ }
+    ensures { λ r. ⌜ Ends r ⌝ }
+{
+    let mut mem = [0.0f32; HISTORY];
+    let mut coefs = [0.0f32; COEFFICIENTS];
+    let mut samples = [0.0f32; SAMPLES];
+    let mut out = [0.0f32; OUTPUTS];
+    let mut text = [0u8; TEXT];
+    let state = resample_open(source, target, &mut mem, &mut coefs);
+    let filt_len = state.filt_len;
+    let all = resample_all(
+        input,
+        output,
+        state,
+        &mut mem,
+        &coefs,
+        &mut samples,
+        &mut out,
+        &mut text,
+    );
+    let next = all.next;
     let Next::Ended = next else {
         return files::ending_of(next);
     };
+    let kept = all.kept;
     resample_close(
         output,
         kept,
