@@ -7,13 +7,13 @@
 use libc::STDIN_FILENO;
 
 // The script's end, a read that failed, and a line that cannot be played.
-const END: u32 = 256;
+pub const END: u32 = 256;
 
-const FAILED: u32 = 257;
+pub const FAILED: u32 = 257;
 
 const BAD: u32 = 258;
 
-const NEWLINE: u32 = 10;
+pub const NEWLINE: u32 = 10;
 
 const SPACE: u32 = 32;
 
@@ -42,33 +42,22 @@ pub fn step(next: u32) -> u32 {
     read_byte()
 }
 
-// The cursor of a line that cannot be played. That a read failed is not forgotten.
-pub fn spoil(next: u32) -> u32 {
-    if next == FAILED {
-        return FAILED;
+// Spoils the cursor unless what was read is fine. That a read failed is not forgotten.
+pub fn check(next: u32, fine: bool) -> u32 {
+    if fine | (next == FAILED) {
+        return next;
     }
     BAD
 }
 
 // Past a byte that has to be there.
 pub fn expect(next: u32, byte: u32) -> u32 {
-    if next == byte {
-        return step(next);
-    }
-    spoil(next)
+    step(check(next, next == byte))
 }
 
 // Whether the line ends here, by its newline or with the script.
 pub fn ends_line(next: u32) -> bool {
     (next == NEWLINE) | (next == END)
-}
-
-pub fn ends_script(next: u32) -> bool {
-    next == END
-}
-
-pub fn read_failed(next: u32) -> bool {
-    next == FAILED
 }
 
 // Whether there is something to read before the line's end.
@@ -83,10 +72,7 @@ pub fn next_word(next: u32) -> u32 {
         return next;
     }
     let word = expect(next, SPACE);
-    if ends_line(word) {
-        return spoil(word);
-    }
-    word
+    check(word, !ends_line(word))
 }
 
 // To the line's end. Nothing says that a line ends, so the turns are counted down, from a number that

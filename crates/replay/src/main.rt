@@ -6,15 +6,15 @@
 // and ends the run. Nothing is proved of the answers here but that the program is safe and ends; what
 // the calls answer is the resampler's contract.
 mod answer;
-mod bits;
 mod lexer;
 mod orders;
+mod places;
 mod player;
 mod segments;
 mod words;
 
-// What is kept from line to line beside the arrays: the byte that comes next, the number of its line,
-// and whether to go on.
+// What is carried from line to line beside the arrays: the byte that comes next, the number of its
+// line, and whether to go on.
 struct Held {
     next: u32,
     line: u64,
@@ -22,7 +22,7 @@ struct Held {
 }
 
 fn main() {
-    let mut kept = [0u32; 18];
+    let mut kept = [0u32; 25];
     let mut history = [0.0f32; 8192];
     let mut coefs = [0.0f32; 8192];
     let mut input = [0.0f32; 16384];
@@ -53,22 +53,20 @@ fn start() -> Held {
 // One line. The byte after it is asked for only once the answer is out, so that a script can be typed.
 fn turn(
     held: Held,
-    kept: &mut [u32; 18],
-    history: &mut [f32; 8192],
-    coefs: &mut [f32; 8192],
-    input: &mut [f32; 16384],
-    output: &mut [f32; 16384],
+    kept: &mut [u32; 25],
+    history: &mut [f32],
+    coefs: &mut [f32],
+    input: &mut [f32],
+    output: &mut [f32],
 ) -> Held {
     let order = orders::read(held.next, kept, input);
-    let reply = player::play(order, kept, history, coefs, input, output);
-    let goes_on = answer::tell(reply, held.line, kept, history, coefs, output);
-    after(order.next, held.line, goes_on)
-}
-
-fn after(next: u32, line: u64, goes_on: bool) -> Held {
+    let changed = player::change(order, *kept, history, coefs, input);
+    let played = player::call(order, changed, history, coefs, input, output);
+    *kept = played;
+    let goes_on = answer::tell(order.name, held.line, played, history, coefs, output);
     Held {
-        next: lexer::step(next),
-        line: std::num::wrapping_add_u64(line, 1),
+        next: lexer::step(order.next),
+        line: std::num::wrapping_add_u64(held.line, 1),
         goes_on,
     }
 }

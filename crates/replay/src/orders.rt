@@ -1,309 +1,220 @@
 // A line as an order: what to do, and with which numbers.
 //
-// Samples that a line names are laid into the lent input. Numbers of the state that a line forges are
-// stored as they are read: should the line turn out bad, nothing is played after it.
-use crate::bits;
+// All lines are read in one way: a name, a slice, a number or two, a pattern, samples, fields, of which
+// each operation has some. What it does not have is left out, and nothing is read for it. Samples
+// are laid into the lent input and fields into the kept numbers as they are read: should the line turn
+// out bad, nothing is played after it.
 use crate::lexer;
+use crate::places::BAD;
+use crate::places::COEFFICIENTS;
+use crate::places::CUTOFF;
+use crate::places::END;
+use crate::places::FORGE;
+use crate::places::HISTORY;
+use crate::places::LEND;
+use crate::places::NEW;
+use crate::places::PASS_OVER;
+use crate::places::POKE;
+use crate::places::POKES;
+use crate::places::PROCESS;
+use crate::places::STATE;
+use crate::places::SUMS;
+use crate::places::UNREADABLE;
+use crate::places::is_operation;
 use crate::segments;
 use crate::segments::CONSTANT;
+use crate::segments::Laid;
 use crate::words;
+use crate::words::Name;
 use crate::words::Number;
-
-// The operation's name, or one of the four numbers that are no name; its arguments, 0 where it has
-// fewer; how many samples of the input it names; and the byte that ends its line.
-pub struct Order {
-    pub name: u64,
-    pub first: u32,
-    pub second: u32,
-    pub third: u32,
-    pub count: usize,
-    pub next: u32,
-}
-
-// A line that says nothing, the script's end, a line that cannot be played, and one that cannot be
-// read. No word has these numbers.
-pub const PASS_OVER: u64 = 90;
-
-pub const END: u64 = 91;
-
-pub const BAD: u64 = 92;
-
-pub const UNREADABLE: u64 = 93;
-
-// The place of the cutoff among the numbers of a state, the one that is given and printed as bits.
-pub const CUTOFF: usize = 9;
 
 const HASH: u32 = 35;
 
 const EQUALS: u32 = 61;
 
-// Names, two decimal digits a letter, as words::Name has them.
-pub const NEW: u64 = 14_05_23;
+// How long the player's own arrays are: the history and the coefficients, and the output.
+const MOST_LENT: u32 = 8192;
 
-pub const LEND: u64 = 12_05_14_04;
+const MOST_ROOM: u32 = 16384;
 
-pub const RATE: u64 = 18_01_20_05;
-
-pub const PROCESS: u64 = 16_18_15_03_05_19_19;
-
-pub const RESET: u64 = 18_05_19_05_20;
-
-pub const SKIP: u64 = 19_11_09_16;
-
-pub const POKE: u64 = 16_15_11_05;
-
-const POKES: u64 = 16_15_11_05_19;
-
-pub const FORGE: u64 = 06_15_18_07_05;
-
-const H: u64 = 08;
-
-const C: u64 = 03;
-
-// The slices that a poke can go to.
-pub const HISTORY: u32 = 1;
-
-pub const COEFFICIENTS: u32 = 2;
-
-// The names of a state's numbers, in the order in which an answer has them.
-const FIELDS: [u64; 16] = [
-    20_01_18_07_05_20,
-    19_15_21_18_03_05,
-    14_21_13,
-    04_05_14,
-    14,
-    01_12_12_15_03,
-    02_21_06_06_05_18,
-    09_14_20,
-    06_18_01_03,
-    03_21_20_15_06_06,
-    15_22_05_18_19_01_13_16_12_05,
-    19_20_01_18_20_05_04,
-    11_05_18_14_05_12,
-    16_15_19_09_20_09_15_14,
-    16_08_01_19_05,
-    13_01_07_09_03,
-];
+// The operation's name, or what the line is that has none; the slice that is poked; its numbers and
+// its pattern, 0 where it has none; how many samples it names; and the byte that ends its line.
+pub struct Order {
+    pub name: usize,
+    pub slice: usize,
+    pub first: u32,
+    pub second: u32,
+    pub pattern: u32,
+    pub count: u32,
+    pub next: u32,
+}
 
 // The order of the line that starts here.
-pub fn read(next: u32, kept: &mut [u32; 18], input: &mut [f32]) -> Order {
-    if lexer::ends_script(next) {
-        return bare(END, next);
-    }
-    if lexer::ends_line(next) | (next == HASH) {
-        return bare(PASS_OVER, lexer::skip_line(next));
-    }
-    judged(read_order(next, kept, input))
-}
-
-// An order counts only if it was read to the line's end.
-fn judged(order: Order) -> Order {
-    let next = order.next;
-    if lexer::ends_line(next) {
-        return order;
-    }
-    if lexer::read_failed(next) {
-        return bare(UNREADABLE, next);
-    }
-    bare(BAD, next)
-}
-
-// An order with no arguments.
-fn bare(name: u64, next: u32) -> Order {
+pub fn read(start: u32, kept: &mut [u32; 25], input: &mut [f32]) -> Order {
+    let name = read_start(start);
+    let slice = read_slice(name.place, name.next);
+    let first = read_first(name.place, slice.next);
+    let second = read_second(name.place, first.next);
+    let pattern = read_pattern(name.place, second.next);
+    let laid = read_samples(name.place, pattern.next, pattern.value, input);
+    let next = read_fields(laid.next, most_fields(name.place), kept);
+    let poked = poked_length(slice.place, kept);
+    let fits = fits(name.place, first.value, second.value, laid.count, poked);
     Order {
-        name,
-        first: 0,
-        second: 0,
-        third: 0,
-        count: 0,
+        name: judged(start, name.place, next, fits),
+        slice: slice.place,
+        first: first.value,
+        second: second.value,
+        pattern: pattern.value,
+        count: laid.count,
         next,
     }
 }
 
-fn read_order(start: u32, kept: &mut [u32; 18], input: &mut [f32]) -> Order {
+// What the line is: an operation that was read to the line's end and fits, or why there is none.
+fn judged(start: u32, place: usize, next: u32, fits: bool) -> usize {
+    if next == lexer::FAILED {
+        return UNREADABLE;
+    }
+    if start == lexer::END {
+        return END;
+    }
+    if (start == HASH) | (start == lexer::NEWLINE) {
+        return PASS_OVER;
+    }
+    if lexer::ends_line(next) & fits & is_operation(place) {
+        return place;
+    }
+    BAD
+}
+
+// Whether the player's arrays are long enough, and a poke stays within the lent slice.
+fn fits(place: usize, first: u32, second: u32, count: u32, poked: u32) -> bool {
+    if place == PROCESS {
+        return first <= MOST_ROOM;
+    }
+    if place == LEND {
+        return (first <= MOST_LENT) & (second <= MOST_LENT);
+    }
+    !takes_slice(place) | (first as u64 + count as u64 <= poked as u64)
+}
+
+fn takes_slice(place: usize) -> bool {
+    (place == POKE) | (place == POKES)
+}
+
+fn poked_length(slice: usize, kept: &[u32; 25]) -> u32 {
+    if slice == HISTORY {
+        return kept[HISTORY];
+    }
+    kept[COEFFICIENTS]
+}
+
+// The line's first word, and on to the next. A remark has no words.
+fn read_start(start: u32) -> Name {
+    if start == HASH {
+        return Name {
+            next: lexer::skip_line(start),
+            place: 0,
+        };
+    }
     let name = words::read_name(start);
-    let letters = name.letters;
-    let next = lexer::next_word(name.next);
-    if letters == PROCESS {
-        return process(next, input);
-    }
-    if letters == POKE {
-        return poke(next, input);
-    }
-    if letters == POKES {
-        return pokes(next, input);
-    }
-    if letters == FORGE {
-        return forge(next, kept);
-    }
-    plain(letters, next)
-}
-
-// The orders that name no samples and no numbers of the state.
-fn plain(letters: u64, next: u32) -> Order {
-    if letters == LEND {
-        return lend(next);
-    }
-    if (letters == NEW) | (letters == RATE) {
-        return rated(letters, next);
-    }
-    if (letters == RESET) | (letters == SKIP) {
-        return bare(letters, next);
-    }
-    bare(BAD, next)
-}
-
-// A decimal number, and on to the next word.
-fn argument(next: u32) -> Number {
-    let read = words::read_decimal(next);
-    Number {
-        next: lexer::next_word(read.next),
-        value: read.value,
+    Name {
+        next: lexer::next_word(name.next),
+        place: name.place,
     }
 }
 
-// A rate: the target's or the source's.
-fn rated(name: u64, next: u32) -> Order {
-    let rate = argument(next);
-    Order {
-        name,
-        first: rate.value,
-        second: 0,
-        third: 0,
-        count: 0,
-        next: rate.next,
+// The slice of a poke.
+fn read_slice(place: usize, next: u32) -> Name {
+    if !takes_slice(place) {
+        return Name { next, place: 0 };
+    }
+    let name = words::read_name(next);
+    let fine = (name.place == HISTORY) | (name.place == COEFFICIENTS);
+    Name {
+        next: lexer::next_word(lexer::check(name.next, fine)),
+        place: name.place,
     }
 }
 
-// How long the history and the coefficients are, and the pattern that fills them up.
-fn lend(next: u32) -> Order {
-    let history = argument(next);
-    let coefs = argument(history.next);
-    let fill = words::read_pattern(coefs.next);
-    Order {
-        name: LEND,
-        first: history.value,
-        second: coefs.value,
-        third: fill.value,
-        count: 0,
-        next: fill.next,
+// A rate, a length, a room, or where a poke begins.
+fn read_first(place: usize, next: u32) -> Number {
+    if (NEW <= place) & (place <= POKES) {
+        return words::argument(next);
     }
+    Number { next, value: 0 }
 }
 
-// The room.
-fn process(next: u32, input: &mut [f32]) -> Order {
-    let room = argument(next);
-    let laid = segments::segments(room.next, input);
-    Order {
-        name: PROCESS,
-        first: room.value,
-        second: 0,
-        third: 0,
-        count: laid.count,
-        next: laid.next,
+// The length of the coefficients.
+fn read_second(place: usize, next: u32) -> Number {
+    if place == LEND {
+        return words::argument(next);
     }
+    Number { next, value: 0 }
 }
 
-// Where a poke goes: from which entry on, and 1 for the history, 2 for the coefficients.
-struct Spot {
-    next: u32,
-    index: u32,
-    slice: u32,
+// What fills up, or the one entry of a poke.
+fn read_pattern(place: usize, next: u32) -> Number {
+    if (place == LEND) | (place == POKE) {
+        return words::read_pattern(next);
+    }
+    Number { next, value: 0 }
 }
 
-fn read_spot(start: u32) -> Spot {
-    let name = words::read_name(start);
-    let index = argument(lexer::next_word(name.next));
-    Spot {
-        next: index.next,
-        index: index.value,
-        slice: slice_of(name.letters),
+// Any number of segments for a call, and one for `pokes`. The one entry of a poke is laid as they are.
+fn read_samples(place: usize, next: u32, pattern: u32, input: &mut [f32]) -> Laid {
+    if place == POKE {
+        return segments::lay_times(CONSTANT, pattern, 1, next, 0, input);
     }
+    let fine = (place != POKES) | lexer::has_word(next);
+    segments::segments(lexer::check(next, fine), most_segments(place), input)
 }
 
-fn slice_of(letters: u64) -> u32 {
-    if letters == H {
-        return HISTORY;
+fn most_segments(place: usize) -> u64 {
+    if place == PROCESS {
+        return u64::MAX;
     }
-    if letters == C {
-        return COEFFICIENTS;
+    if place == POKES {
+        return 1;
     }
     0
 }
 
-fn poked(spot: Spot, next: u32, count: usize) -> Order {
-    Order {
-        name: POKE,
-        first: spot.index,
-        second: spot.slice,
-        third: 0,
-        count,
-        next,
+fn most_fields(place: usize) -> u64 {
+    if place == FORGE {
+        return u64::MAX;
     }
-}
-
-// One entry.
-fn poke(next: u32, input: &mut [f32]) -> Order {
-    let spot = read_spot(next);
-    let read = words::read_pattern(spot.next);
-    let laid = segments::lay_times(CONSTANT, read.value, 1, read.next, 0, input);
-    poked(spot, laid.next, laid.count)
-}
-
-// The entries of one segment.
-fn pokes(next: u32, input: &mut [f32]) -> Order {
-    let spot = read_spot(next);
-    let laid = segments::segment(spot.next, 0, input);
-    poked(spot, laid.next, laid.count)
+    0
 }
 
 // Any number of fields, none too; of a field that is there twice the last counts.
-fn forge(start: u32, kept: &mut [u32; 18]) -> Order {
+fn read_fields(start: u32, most: u64, kept: &mut [u32; 25]) -> u32 {
     let mut next = start;
-    let mut turns = u64::MAX;
+    let mut turns = most;
     while turns > 0 && lexer::has_word(next) {
-        next = field(next, kept);
+        next = read_field(next, kept);
         turns -= 1;
     }
-    bare(FORGE, next)
+    next
 }
 
-// FIELD=V, and on to the next word.
-fn field(start: u32, kept: &mut [u32; 18]) -> u32 {
+// FIELD=V, and on to the next word. A name that is no field's spoils the line, and it does no harm
+// that a number is stored.
+fn read_field(start: u32, kept: &mut [u32; 25]) -> u32 {
     let name = words::read_name(start);
-    let index = place_of(name.letters);
-    let read = read_value(lexer::expect(name.next, EQUALS), index);
-    if index < 16 {
-        kept[index] = read.value;
-        return lexer::next_word(read.next);
+    let place = name.place;
+    let read = read_value(place, lexer::expect(name.next, EQUALS));
+    if place < SUMS {
+        kept[place] = read.value;
     }
-    lexer::spoil(read.next)
+    let fine = (STATE <= place) & (place < SUMS);
+    lexer::next_word(lexer::check(read.next, fine))
 }
 
-// The place of a field among the numbers of a state, and 16 for any other name.
-fn place_of(letters: u64) -> usize {
-    let mut i = 0;
-    while i < 16 {
-        if FIELDS[i] == letters {
-            return i;
-        }
-        i += 1;
-    }
-    16
-}
-
-fn read_value(next: u32, index: usize) -> Number {
-    if index == CUTOFF {
-        return read_cutoff(next);
+fn read_value(place: usize, next: u32) -> Number {
+    if place == CUTOFF {
+        return words::read_pattern(next);
     }
     words::read_decimal(next)
-}
-
-// Every NaN is the one NaN already here, so that it is printed as that.
-fn read_cutoff(next: u32) -> Number {
-    let read = words::read_pattern(next);
-    Number {
-        next: read.next,
-        value: bits::bits_of(bits::float_of(read.value)),
-    }
 }

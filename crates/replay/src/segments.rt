@@ -1,7 +1,6 @@
 // The samples that a line names, segment by segment, laid into a lent slice.
 //
 // A segment that does not fit the slice spoils the line.
-use crate::bits;
 use crate::lexer;
 use crate::words;
 use crate::words::Number;
@@ -48,13 +47,21 @@ const SPECIALS: [u32; 16] = [
 // How many entries of the slice are laid, and the byte that comes next in the line.
 pub struct Laid {
     pub next: u32,
-    pub count: usize,
+    pub count: u32,
 }
 
-// All segments up to the line's end, joined.
-pub fn segments(next: u32, samples: &mut [f32]) -> Laid {
+// The lesser of two lengths.
+pub fn least(a: usize, b: usize) -> usize
+    ensures { λ r. ⌜ r ≤ a ⌝ }
+    ensures { λ r. ⌜ r ≤ b ⌝ }
+{
+    if a < b { a } else { b }
+}
+
+// At most `most` segments, joined, up to the line's end.
+pub fn segments(next: u32, most: u64, samples: &mut [f32]) -> Laid {
     let mut laid = Laid { next, count: 0 };
-    let mut turns = u64::MAX;
+    let mut turns = most;
     while turns > 0 && lexer::has_word(laid.next) {
         laid = segment(laid.next, laid.count, samples);
         turns -= 1;
@@ -63,17 +70,8 @@ pub fn segments(next: u32, samples: &mut [f32]) -> Laid {
 }
 
 // One segment more, and on to the next word.
-pub fn segment(kind: u32, count: usize, samples: &mut [f32]) -> Laid {
+fn segment(kind: u32, count: u32, samples: &mut [f32]) -> Laid {
     let next = lexer::expect(lexer::step(kind), COLON);
-    let laid = samples_of(kind, next, count, samples);
-    Laid {
-        next: lexer::next_word(laid.next),
-        count: laid.count,
-    }
-}
-
-// What stands after a segment's colon.
-fn samples_of(kind: u32, next: u32, count: usize, samples: &mut [f32]) -> Laid {
     if kind == LISTED {
         return listed(next, count, samples);
     }
@@ -81,63 +79,29 @@ fn samples_of(kind: u32, next: u32, count: usize, samples: &mut [f32]) -> Laid {
 }
 
 // Patterns with commas between.
-fn listed(next: u32, count: usize, samples: &mut [f32]) -> Laid {
+fn listed(next: u32, count: u32, samples: &mut [f32]) -> Laid {
     let mut laid = entry(next, count, samples);
     let mut turns = u64::MAX;
     while turns > 0 && laid.next == COMMA {
         laid = entry(lexer::step(laid.next), laid.count, samples);
         turns -= 1;
     }
-    laid
+    Laid {
+        next: lexer::next_word(laid.next),
+        count: laid.count,
+    }
 }
 
-fn entry(next: u32, count: usize, samples: &mut [f32]) -> Laid {
+fn entry(next: u32, count: u32, samples: &mut [f32]) -> Laid {
     let read = words::read_entry(next);
     lay_times(CONSTANT, read.value, 1, read.next, count, samples)
 }
 
 // A segment of the form SEED*COUNT.
-fn made(kind: u32, next: u32, count: usize, samples: &mut [f32]) -> Laid {
+fn made(kind: u32, next: u32, count: u32, samples: &mut [f32]) -> Laid {
     let seed = read_seed(kind, next);
-    let times = words::read_decimal(lexer::expect(seed.next, STAR));
-    lay_times(
-        kind,
-        seed.value,
-        times.value as usize,
-        times.next,
-        count,
-        samples,
-    )
-}
-
-// So many samples more of a kind, if there is room for them.
-pub fn lay_times(
-    kind: u32,
-    seed: u32,
-    times: usize,
-    next: u32,
-    count: usize,
-    samples: &mut [f32],
-) -> Laid {
-    if !is_kind(kind) {
-        return no_room(next, count);
-    }
-    if count > samples.len() {
-        return no_room(next, count);
-    }
-    if times > samples.len() - count {
-        return no_room(next, count);
-    }
-    let to = count + times;
-    lay(kind, seed, count, to, samples);
-    Laid { next, count: to }
-}
-
-fn no_room(next: u32, count: usize) -> Laid {
-    Laid {
-        next: lexer::spoil(next),
-        count,
-    }
+    let times = words::argument(lexer::expect(seed.next, STAR));
+    lay_times(kind, seed.value, times.value, times.next, count, samples)
 }
 
 // A constant's seed is its pattern.
@@ -145,11 +109,27 @@ fn read_seed(kind: u32, next: u32) -> Number {
     if kind == CONSTANT {
         return words::read_pattern(next);
     }
-    words::read_decimal(next)
+    let fine = (kind == DENORMAL) | (kind == RANDOM) | (kind == SPECIAL);
+    words::read_decimal(lexer::check(next, fine))
 }
 
-fn is_kind(kind: u32) -> bool {
-    (kind == CONSTANT) | (kind == DENORMAL) | (kind == RANDOM) | (kind == SPECIAL)
+// So many samples more of a kind. Where there is no room for all of them the line is spoiled, and it
+// does no harm that some are laid.
+pub fn lay_times(
+    kind: u32,
+    seed: u32,
+    times: u32,
+    next: u32,
+    count: u32,
+    samples: &mut [f32],
+) -> Laid {
+    let to = count as usize + times as usize;
+    let end = least(to, samples.len());
+    lay(kind, seed, count as usize, end, samples);
+    Laid {
+        next: lexer::check(next, to == end),
+        count: (end % 4294967296) as u32,
+    }
 }
 
 // Entries from..to, by the numbers that follow the seed.
@@ -170,40 +150,26 @@ fn following(kind: u32, x: u32) -> u32 {
     if kind == CONSTANT {
         return x;
     }
-    let stepped = (x as u64 * 1664525 + 1013904223) % 4294967296;
-    stepped as u32
+    ((x as u64 * 1664525 + 1013904223) % 4294967296) as u32
 }
 
-// The sample that a number stands for.
+// The sample that a number stands for. A random one is from -1.0 up to 1.0, in steps of 2^-23: each
+// operation is exact. Of the special ones seven in eight are random.
 fn sample(kind: u32, x: u32) -> f32 {
-    if kind == CONSTANT {
-        return bits::float_of(x);
+    if (kind == RANDOM) | (kind == SPECIAL) & (x >= 536870912) {
+        let middle: f32 = 8388608.0;
+        return (std::num::nearest_u32_to_f32(x / 256) - middle) / middle;
+    }
+    bits::float_of(pattern(kind, x))
+}
+
+// The bits of a sample that is not random. A denormal one is of either sign.
+fn pattern(kind: u32, x: u32) -> u32 {
+    if kind == SPECIAL {
+        return SPECIALS[(x / 33554432 % 16) as usize];
     }
     if kind == DENORMAL {
-        return denormal(x);
+        return x / 512 + x % 2 * 0x8000_0000;
     }
-    if kind == SPECIAL {
-        return special(x);
-    }
-    random(x)
-}
-
-// From -1.0 up to 1.0, in steps of 2^-23: each operation is exact.
-fn random(x: u32) -> f32 {
-    let middle: f32 = 8388608.0;
-    (std::num::nearest_u32_to_f32(x / 256) - middle) / middle
-}
-
-// One in eight is a value that breaks things.
-fn special(x: u32) -> f32 {
-    if x < 536870912 {
-        let index = (x / 33554432) as usize;
-        return bits::float_of(SPECIALS[index]);
-    }
-    random(x)
-}
-
-// Too small to be normal, of either sign.
-fn denormal(x: u32) -> f32 {
-    bits::float_of(x / 512 + x % 2 * 0x8000_0000)
+    x
 }

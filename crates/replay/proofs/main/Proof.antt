@@ -1,11 +1,13 @@
--- `replay::main` is safe and ends. The measure is the turns that are left. Assumes nothing.
+-- `replay::main` is safe and ends. The invariant: each array keeps its length. The measure is the turns that are left. Assumes nothing.
+use mathlib.Core.Path.{_≡_}
+use lib.ListN.{length}
 use borrow.Author.Needs.{needs}
 use Rattle.replay.proofs.main.Statement.{statement}
 use Rattle.replay.proofs.main.Tie as tie
 
 abbrev Inv-loop : tie.InvT-loop
 Inv-loop kept₀ history₀ coefs₀ input₀ output₀ held₀ turns₀ kept history coefs input output held turns =
-    Unit {0}
+    (8192 ≡ length history) × (8192 ≡ length coefs) × (16384 ≡ length input) × (16384 ≡ length output)
 
 abbrev μ-loop : tie.MeasureT-loop
 μ-loop kept₀ history₀ coefs₀ input₀ output₀ held₀ turns₀ kept history coefs input output held turns =
@@ -16,6 +18,18 @@ start-requires c κs = search needs
 
 loop-holds : tie.Need-loop-holds Inv-loop μ-loop
 loop-holds c = search needs
+
+slice-aggregate-turn : tie.Need-slice-aggregate-turn Inv-loop μ-loop
+slice-aggregate-turn c = search needs
+
+slice-aggregate-turn-2 : tie.Need-slice-aggregate-turn-2 Inv-loop μ-loop
+slice-aggregate-turn-2 c = search needs
+
+slice-aggregate-turn-3 : tie.Need-slice-aggregate-turn-3 Inv-loop μ-loop
+slice-aggregate-turn-3 c = search needs
+
+slice-aggregate-turn-4 : tie.Need-slice-aggregate-turn-4 Inv-loop μ-loop
+slice-aggregate-turn-4 c = search needs
 
 turn-requires : tie.Need-turn-requires Inv-loop μ-loop
 turn-requires c κs = search needs
@@ -43,6 +57,10 @@ main-spec =
     μ-loop
     start-requires
     loop-holds
+    slice-aggregate-turn
+    slice-aggregate-turn-2
+    slice-aggregate-turn-3
+    slice-aggregate-turn-4
     turn-requires
     sub-turns
     loop-less

@@ -1,15 +1,17 @@
--- `replay::answer::sum` is safe and ends. The invariant: the index is within the samples, and the sum below its modulus. The measure is how many samples are left. Assumes nothing.
-use Prim.Native.Nat.{_≤_, _<_, _-_}
-use lib.ListN.{length}
+-- `replay::answer::sum` is safe and ends. Assumes nothing.
+use Prim.Native.Nat.{_-_}
 use borrow.Author.Needs.{needs}
 use Rattle.replay.proofs.answer.sum.Statement.{statement}
 use Rattle.replay.proofs.answer.sum.Tie as tie
 
 abbrev Inv-loop : tie.InvT-loop
-Inv-loop samples sum₀ i₀ sum i = (i ≤ length samples) × (sum < 4294967291)
+Inv-loop samples count end sum₀ i₀ sum i = Unit {0}
 
 abbrev μ-loop : tie.MeasureT-loop
-μ-loop samples sum₀ i₀ sum i = length samples - i
+μ-loop samples count end sum₀ i₀ sum i = end - i
+
+least-requires : tie.Need-least-requires Inv-loop μ-loop
+least-requires c κs = search needs
 
 loop-holds : tie.Need-loop-holds Inv-loop μ-loop
 loop-holds c = search needs
@@ -41,6 +43,7 @@ sum-spec =
     (tie.spec
     Inv-loop
     μ-loop
+    least-requires
     loop-holds
     mul-summed
     shared-slice-read-summed

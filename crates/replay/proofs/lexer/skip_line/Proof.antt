@@ -1,4 +1,4 @@
--- `replay::lexer::skip_line` is safe and ends. The measure is the turns that are left. Assumes nothing.
+-- `replay::lexer::skip_line` is safe and ends. Assumes nothing.
 use borrow.Author.Needs.{needs}
 use Rattle.replay.proofs.lexer.skip_line.Statement.{statement}
 use Rattle.replay.proofs.lexer.skip_line.Tie as tie

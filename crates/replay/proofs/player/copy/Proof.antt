@@ -1,4 +1,4 @@
--- `replay::player::copy` is safe and ends. The invariant: the slice keeps its length. The measure is how many entries are left. Assumes nothing.
+-- `replay::player::copy` is safe and ends. Assumes nothing.
 use Prim.Native.Nat.{_-_}
 use mathlib.Core.Path.{_≡_}
 use lib.ListN.{length}
@@ -7,10 +7,13 @@ use Rattle.replay.proofs.player.copy.Statement.{statement}
 use Rattle.replay.proofs.player.copy.Tie as tie
 
 abbrev Inv-loop : tie.InvT-loop
-Inv-loop samples₀ index input count i₀ samples i = length samples ≡ length samples₀
+Inv-loop samples₀ input end i₀ samples i = length samples ≡ length samples₀
 
 abbrev μ-loop : tie.MeasureT-loop
-μ-loop samples₀ index input count i₀ samples i = count - i
+μ-loop samples₀ input end i₀ samples i = end - i
+
+least-requires : tie.Need-least-requires Inv-loop μ-loop
+least-requires c κs = search needs
 
 loop-holds : tie.Need-loop-holds Inv-loop μ-loop
 loop-holds c = search needs
@@ -20,9 +23,6 @@ mul-samples c = search needs
 
 shared-slice-read-samples : tie.Need-shared-slice-read-samples Inv-loop μ-loop
 shared-slice-read-samples c = search needs
-
-add-samples : tie.Need-add-samples Inv-loop μ-loop
-add-samples c = search needs
 
 mul-samples-2 : tie.Need-mul-samples-2 Inv-loop μ-loop
 mul-samples-2 c = search needs
@@ -51,10 +51,10 @@ copy-spec =
     (tie.spec
     Inv-loop
     μ-loop
+    least-requires
     loop-holds
     mul-samples
     shared-slice-read-samples
-    add-samples
     mul-samples-2
     slice-write-samples
     add-i

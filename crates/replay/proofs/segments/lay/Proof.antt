@@ -1,4 +1,4 @@
--- `replay::segments::lay` is safe and ends. The invariant: the slice keeps its length. The measure is how many entries are left. Assumes nothing.
+-- `replay::segments::lay` is safe and ends. Assumes nothing.
 use Prim.Native.Nat.{_-_}
 use mathlib.Core.Path.{_≡_}
 use lib.ListN.{length}

@@ -1,4 +1,4 @@
--- `replay::segments::listed` is safe and ends. The invariant: the slice keeps its length. The measure is the turns that are left. Assumes nothing.
+-- `replay::segments::listed` is safe and ends. Assumes nothing.
 use mathlib.Core.Path.{_≡_}
 use lib.ListN.{length}
 use borrow.Author.Needs.{needs}
@@ -32,17 +32,14 @@ loop-less c = search needs
 loop-again : tie.Need-loop-again Inv-loop μ-loop
 loop-again c = search needs
 
+next-word-requires : tie.Need-next-word-requires Inv-loop μ-loop
+next-word-requires c κs = search needs
+
 same-length : tie.Need-same-length Inv-loop μ-loop
 same-length c = search needs
 
 returns : tie.Need-returns Inv-loop μ-loop
 returns c = search needs
-
-same-length-2 : tie.Need-same-length-2 Inv-loop μ-loop
-same-length-2 c = search needs
-
-returns-2 : tie.Need-returns-2 Inv-loop μ-loop
-returns-2 c = search needs
 
 pub listed-spec : {M : Type 1} → statement M
 listed-spec =
@@ -57,7 +54,6 @@ listed-spec =
     sub-turns
     loop-less
     loop-again
+    next-word-requires
     same-length
-    returns
-    same-length-2
-    returns-2)
+    returns)

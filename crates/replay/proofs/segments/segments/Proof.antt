@@ -6,10 +6,10 @@ use Rattle.replay.proofs.segments.segments.Statement.{statement}
 use Rattle.replay.proofs.segments.segments.Tie as tie
 
 abbrev Inv-loop : tie.InvT-loop
-Inv-loop next samples₀ laid₀ turns₀ samples laid turns = length samples ≡ length samples₀
+Inv-loop next most samples₀ laid₀ turns₀ samples laid turns = length samples ≡ length samples₀
 
 abbrev μ-loop : tie.MeasureT-loop
-μ-loop next samples₀ laid₀ turns₀ samples laid turns = turns
+μ-loop next most samples₀ laid₀ turns₀ samples laid turns = turns
 
 loop-holds : tie.Need-loop-holds Inv-loop μ-loop
 loop-holds c = search needs

@@ -1,4 +1,4 @@
--- `replay::words::appended` is safe: a number up to 4294967295 times at most 16 is far below 2^64. Assumes nothing.
+-- `replay::words::appended` is safe: a number up to 184467440737095515 times at most 100, and 100 more, is below 2^64. Assumes nothing.
 use native.Mathlib.Nat.{mul-le-mul-left}
 use native.Mathlib.Omega.{arith}
 use Rattle.replay.proofs.words.appended.Statement.{statement}

@@ -1,4 +1,4 @@
--- `replay::words::read_digits` is safe and ends. The measure is how many digits may still come. Assumes nothing.
+-- `replay::words::read_digits` is safe and ends. Assumes nothing.
 use Prim.Native.Nat.{_-_}
 use borrow.Author.Needs.{needs}
 use Rattle.replay.proofs.words.read_digits.Statement.{statement}

@@ -1,16 +1,19 @@
--- `replay::player::set` is safe and ends. The invariant: the slice keeps its length. The measure is how many entries are left. Assumes nothing.
+-- `replay::player::fill` is safe and ends. Assumes nothing.
 use Prim.Native.Nat.{_-_}
 use mathlib.Core.Path.{_≡_}
 use lib.ListN.{length}
 use borrow.Author.Needs.{needs}
-use Rattle.replay.proofs.player.set.Statement.{statement}
-use Rattle.replay.proofs.player.set.Tie as tie
+use Rattle.replay.proofs.player.fill.Statement.{statement}
+use Rattle.replay.proofs.player.fill.Tie as tie
 
 abbrev Inv-loop : tie.InvT-loop
-Inv-loop samples₀ from to value i₀ samples i = length samples ≡ length samples₀
+Inv-loop samples₀ from pattern value i₀ samples i = length samples ≡ length samples₀
 
 abbrev μ-loop : tie.MeasureT-loop
-μ-loop samples₀ from to value i₀ samples i = to - i
+μ-loop samples₀ from pattern value i₀ samples i = length samples₀ - i
+
+float-of-requires : tie.Need-float-of-requires Inv-loop μ-loop
+float-of-requires c κs = search needs
 
 loop-holds : tie.Need-loop-holds Inv-loop μ-loop
 loop-holds c = search needs
@@ -36,12 +39,13 @@ same-length c = search needs
 returns : tie.Need-returns Inv-loop μ-loop
 returns c = search needs
 
-pub set-spec : {M : Type 1} → statement M
-set-spec =
+pub fill-spec : {M : Type 1} → statement M
+fill-spec =
     tie.close
     (tie.spec
     Inv-loop
     μ-loop
+    float-of-requires
     loop-holds
     mul-samples
     slice-write-samples

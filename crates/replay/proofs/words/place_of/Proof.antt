@@ -1,14 +1,14 @@
--- `replay::orders::place_of` is safe and ends. The measure is how many numbers are left. Assumes nothing.
+-- `replay::words::place_of` is safe and ends. Assumes nothing.
 use Prim.Native.Nat.{_-_}
 use borrow.Author.Needs.{needs}
-use Rattle.replay.proofs.orders.place_of.Statement.{statement}
-use Rattle.replay.proofs.orders.place_of.Tie as tie
+use Rattle.replay.proofs.words.place_of.Statement.{statement}
+use Rattle.replay.proofs.words.place_of.Tie as tie
 
 abbrev Inv-loop : tie.InvT-loop
 Inv-loop letters i₀ i = Unit {0}
 
 abbrev μ-loop : tie.MeasureT-loop
-μ-loop letters i₀ i = 16 - i
+μ-loop letters i₀ i = 35 - i
 
 loop-holds : tie.Need-loop-holds Inv-loop μ-loop
 loop-holds c = search needs
