@@ -33,34 +33,44 @@ fn rate_verdict(source: u32, target: u32, mem_len: usize, coefs_len: usize) -> V
     judge::judge_rate(QualityMapping::house(), state, source, mem_len, coefs_len)
 }
 
-// A question, source and target rate, two lengths, and the answer:
+// Whether a question has this answer. A question that there is not has none.
+fn is_answer(
+    question: u8,
+    source: u32,
+    target: u32,
+    first: u64,
+    second: u64,
+    letter: u8,
+    number: u64,
+) -> bool {
+    if question == b'c' {
+        let total = recording::closed_total(Consumed(first), source, target);
+        return is_total(total, letter, number);
+    }
+    let verdict = match question {
+        b'n' => judge::judge_new(target),
+        b'r' => rate_verdict(source, target, first as usize, second as usize),
+        b'p' => process_verdict(source, target, first as usize, second as usize),
+        _ => return false,
+    };
+    is_verdict(verdict, letter, number)
+}
+
+// A question, source and target rate, two lengths, and the answer as a word and a number. Told by its
+// first letter, a question is one of these:
 //
 //     new     ...... TTTTTT ............. ........ a new state
 //     rate    SSSSSS TTTTTT HHHHHHHHHHHHH CCCCCCCC setting a rate, with a history and coefficients so long
 //     process SSSSSS TTTTTT IIIIIIIIIIIII OOOOOOOO a call, with an input and an output so long
 //     closed  SSSSSS TTTTTT IIIIIIIIIIIII ........ a closed recording of so many samples
 pub fn is_right(line: &[u8]) -> bool {
-    let source = text::small_number(line, 8, 14, 10);
-    let target = text::small_number(line, 15, 21, 10);
-    let first = text::number(line, 22, 35, 10);
-    let second = text::number(line, 36, 44, 10);
-    let letter = text::byte_at(line, 45);
-    let number = text::number(line, 54, 66, 10);
-    match text::byte_at(line, 0) {
-        b'n' => is_verdict(judge::judge_new(target), letter, number),
-        b'r' => {
-            let verdict = rate_verdict(source, target, first as usize, second as usize);
-            is_verdict(verdict, letter, number)
-        }
-        b'p' => {
-            let verdict = process_verdict(source, target, first as usize, second as usize);
-            is_verdict(verdict, letter, number)
-        }
-        b'c' => is_total(
-            recording::closed_total(Consumed(first), source, target),
-            letter,
-            number,
-        ),
-        _ => false,
-    }
+    is_answer(
+        text::byte_at(line, 0),
+        text::small_number(line, 8, 14, 10),
+        text::small_number(line, 15, 21, 10),
+        text::number(line, 22, 35, 10),
+        text::number(line, 36, 44, 10),
+        text::byte_at(line, 45),
+        text::number(line, 54, 66, 10),
+    )
 }

@@ -64,16 +64,17 @@ fn room() -> [u8; 98304]
     [0; 98304]
 }
 
-// The totals of a file of n bytes. A part of a line at its end is told too.
+// How many were tried of this width in n, and how many of them are wrong. A part of a line at a file's
+// end is told too.
 fn print_totals(name: &[u8], n: usize, width: usize, wrong: u64)
     requires { ⌜ 0 < width ⌝ }
 {
     io::write_all(STDOUT_FILENO, name);
     io::write_all(STDOUT_FILENO, b": ");
     io::print_decimal(STDOUT_FILENO, (n / width) as u64);
-    io::write_all(STDOUT_FILENO, b" lines");
+    io::write_all(STDOUT_FILENO, b" tried");
     if n % width > 0 {
-        io::write_all(STDOUT_FILENO, b" and a part");
+        io::write_all(STDOUT_FILENO, b" and a part of a line");
     }
     io::write_all(STDOUT_FILENO, b", ");
     io::print_decimal(STDOUT_FILENO, wrong);
@@ -120,7 +121,5 @@ fn main() {
     try_file(b"sine.txt", Subject::Sine, 34);
     try_file(b"coefficients.txt", Subject::Coefficients, 29);
     try_file(b"limits.txt", Subject::Limits, 67);
-    io::write_all(STDOUT_FILENO, b"from_i16 and back: 65536 samples, ");
-    io::print_decimal(STDOUT_FILENO, count_changed());
-    io::write_all(STDOUT_FILENO, b" wrong\n");
+    print_totals(b"from_i16 and back", 65536, 1, count_changed());
 }

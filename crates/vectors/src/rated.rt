@@ -1,7 +1,7 @@
 // What the public entries make of two rates.
 //
-// The coefficients are made anew for each question: that takes less time than it would take to prove
-// that the right ones are still there.
+// The coefficients are made anew for each question, about a second for all of them: so no answer
+// depends on the question before.
 use judge::Verdict;
 use quality::QualityMapping;
 use resampler::Answer;
