@@ -1,5 +1,6 @@
 // Runs the small program's code on whole files. Each pair of arguments names an input and what it has to
 // give, both under data/. Writes the name of each input that gave something else, and then the totals.
+use conforming::Ending;
 use libc::STDOUT_FILENO;
 
 // How two files go on: a block of each is the same and more may follow, they ended alike, or they differ.
@@ -36,15 +37,29 @@ fn same_files(a: i32, b: i32) -> bool {
     false
 }
 
-// Runs the code on an open file and compares what it wrote with another.
+// Whether a run came to its end, by conforming or by refusing the file.
+fn came_to_its_end(ending: Ending) -> bool {
+    match ending {
+        Ending::Conformed => true,
+        Ending::Refused(_) => true,
+        Ending::ReadFailed => false,
+        Ending::WriteFailed => false,
+    }
+}
+
+// Runs the code on an open file and compares what it wrote with another. A file that could not be
+// opened has a negative number.
 fn is_right(input: i32, want: i32) -> bool {
+    if (input < 0) | (want < 0) {
+        return false;
+    }
     let out = os::open_overwrite(b"out");
-    conforming::run(input, out);
+    let whole = came_to_its_end(conforming::run(input, out));
     libc::close(out);
     let back = os::open_read(b"out");
     let same = same_files(back, want);
     libc::close(back);
-    same
+    whole & same
 }
 
 // The case of arguments i and i + 1; whether it failed.

@@ -14,7 +14,7 @@ use Rattle.rates.proofs.Limits.{limits}
 use Rattle.state.specs.declared.ResamplerState.{ResamplerState}
 use Rattle.pinned.specs.Pinned.{firstState}
 use Rattle.pinned.proofs.First.{new-accepted, first-setting, first-rate}
-use Rattle.stages.specs.Stages.{opened}
+use Rattle.stages.specs.Stages.{openedStage}
 
 module _ (source target : ℕ) (hs : InLimits source) (ht : InLimits target) (mem coefs : List Float)
     (mem-to : maxHistory ≤ length mem) (coefs-to : maxCoefficients ≤ length coefs) where
@@ -24,9 +24,9 @@ module _ (source target : ℕ) (hs : InLimits source) (ht : InLimits target) (me
   pub coefs-long : settingOf house source target .coefs ≤ length coefs
   coefs-long = omega (arith, limits house house-sane source target hs ht .coefs-to)
 
-  pub opened-state : (out : List Float) → opened source target mem coefs out .state ≡ firstState house source target
+  pub opened-state : (out : List Float) → openedStage source target mem coefs out .state ≡ firstState house source target
   opened-state out = rw (new-accepted target ht, first-rate house source target hs ht mem coefs mem-long coefs-long)
 
   -- which tells the filter's length
-  pub filter-length : (out : List Float) → opened source target mem coefs out .state .«filt_len» ≡ settingOf house source target .«filt_len»
+  pub filter-length : (out : List Float) → openedStage source target mem coefs out .state .«filt_len» ≡ settingOf house source target .«filt_len»
   filter-length out = ap (λ (s : ResamplerState). s .«filt_len») (opened-state out) ∙ ap (λ (s : Setting). s .«filt_len») (first-setting house source target)

@@ -47,7 +47,7 @@ use Rattle.recording.proofs.Theorems.{count, outputs-of-a-recording}
 use Rattle.pcm.specs.Blocks.{samplesOf, bytesOf}
 use Rattle.pcm.proofs.Blocks.{length-samples, bytes-append}
 use Rattle.edges.specs.Edges.{oddOf, closingZeros, closing}
-use Rattle.stages.specs.Stages.{Stage, opened, pulled, handed, block, fed}
+use Rattle.stages.specs.Stages.{Stage, openedStage, pulled, handed, block, fed}
 use Rattle.edges.proofs.Laws.{zeros-to}
 use Rattle.conformed.specs.Conformed.{closedInput, resampled}
 use Rattle.conformed.specs.Program.{Slices, Long, AllShort, maxOutputs, joined, resampledBlocks, OfTheFile}
@@ -118,7 +118,7 @@ module _ (source target : ℕ) (hs : InLimits source) (ht : InLimits target) (l 
 
   -- ---- it begins where the stage does
   abbrev first : Stage
-  first = opened source target (l .mem) (l .coefs) (l .out)
+  first = openedStage source target (l .mem) (l .coefs) (l .out)
 
   begins : progressOf first 0 0 [] ≡ recording.opened r
   begins = rw (new-accepted target ht, first-rate house source target hs ht (l .mem) (l .coefs) mem-enough coefs-enough)

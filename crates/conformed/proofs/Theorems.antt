@@ -30,7 +30,7 @@ use Rattle.pcm.specs.declared.Header.{Header}
 use Rattle.pcm.specs.declared.Header.the-variants.{Refused, Rates}
 use Rattle.edges.specs.Edges.{wholeOf}
 use Rattle.conformed.specs.Conformed.{refusalLine, closedInput, resampled, conformedBy, conformed}
-use Rattle.conformed.specs.Program.{Slices, Long, Reading, AllShort, joined, copiedBlocks, resampledBlocks, firstStage, blocksBy, blocks, OfTheFile}
+use Rattle.conformed.specs.Program.{Slices, Long, ReadAs, AllShort, joined, copiedBlocks, resampledBlocks, firstStage, blocksBy, blocks, OfTheFile}
 use Rattle.conformed.proofs.Headers.{rates-in-limits}
 use Rattle.conformed.proofs.Opened.{filter-length}
 use Rattle.conformed.proofs.Odd.{copied}
@@ -44,7 +44,7 @@ past (suc k) [] h = refl
 past (suc k) (x ∷ l) h = past k l (omega arith)
 
 -- ---- the header and the body of what was read
-module _ (head : List ℕ) (reads : List (List ℕ)) (r : Reading head reads) where
+module _ (head : List ℕ) (reads : List (List ℕ)) (r : ReadAs head reads) where
   head-is : take headerLength (head ++ joined reads) ≡ head
   head-is = elim (below-or-not (length head) headerLength) [
     | inl short ↦ rw (r .short-ends short, append-nil head) (take-all headerLength head (omega arith))
@@ -80,7 +80,7 @@ module _ (l : Slices) (long : Long l) (reads : List (List ℕ)) (short : AllShor
 -- THE PROGRAM
 
 -- what it hands on is `conformed` of what it read, however that was cut
-pub however-read : (l : Slices) → Long l → (head : List ℕ) (reads : List (List ℕ)) → Reading head reads
+pub however-read : (l : Slices) → Long l → (head : List ℕ) (reads : List (List ℕ)) → ReadAs head reads
     → joined (blocks l head reads) ≡ conformed (head ++ joined reads)
 unfolding conformed
 however-read l long head reads r =

@@ -18,7 +18,7 @@ use Rattle.pcm.specs.Blocks.{samplesOf}
 use Rattle.pcm.specs.declared.Header.{Header}
 use Rattle.pcm.specs.declared.Header.the-variants.{Refused, Rates}
 use Rattle.edges.specs.Edges.{wholeOf, oddOf, closing}
-use Rattle.stages.specs.Stages.{Stage, opened, handed, block, fed}
+use Rattle.stages.specs.Stages.{Stage, openedStage, handed, block, fed}
 use Rattle.conformed.specs.Conformed.{refusalLine}
 
 -- one after another
@@ -51,7 +51,7 @@ pub record Slices : Type 0 where
 module _ (l : Slices) where
   -- before the first read
   abbrev pub firstStage : ℕ → ℕ → Stage
-  firstStage source target = opened source target (l .mem) (l .coefs) (l .out)
+  firstStage source target = openedStage source target (l .mem) (l .coefs) (l .out)
 
   abbrev pub bodyBlocks : ℕ → ℕ → List (List ℕ) → List (List ℕ)
   bodyBlocks source target reads =
@@ -86,7 +86,7 @@ AllShort [] = Unit {0}
 AllShort (read ∷ reads) = (length read ≤ maxRead) × AllShort reads
 
 -- how a file is read: at first as much of its header as there is, and then the rest in any way
-pub record Reading (head : List ℕ) (reads : List (List ℕ)) : Type 0 where
+pub record ReadAs (head : List ℕ) (reads : List (List ℕ)) : Type 0 where
   pub head-to : length head ≤ headerLength
   pub short-ends : length head < headerLength → reads ≡ []
   pub short : AllShort reads

@@ -24,7 +24,7 @@ pub fn goes_on(next: Next) -> bool {
     }
 }
 
-// How a run ends that ends there.
+// How a run ends that stops there. (`More` would be a run that used up its turns.)
 pub fn ending_of(next: Next) -> Ending
     ensures { λ r. ⌜ Ends r ⌝ }
 {

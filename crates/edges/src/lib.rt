@@ -1,7 +1,7 @@
 // What stands at the edges of a file's blocks: the first byte of a sample whose second is not read yet,
 // and the zeros that follow the last sample.
 ghost use mathlib.Core.Path.{_≡_};
-ghost use Prim.Native.Nat.{_≤_};
+ghost use Prim.Native.Nat.{_%_, _≤_};
 ghost use lib.ListN.{length, take};
 ghost use Rattle.edges.specs.Edges.{oddOf, closingZeros};
 
@@ -10,7 +10,7 @@ ghost use Rattle.edges.specs.Edges.{oddOf, closingZeros};
 pub fn keep_odd(bytes: &mut [u8], n: usize) -> usize
     requires { ⌜ n ≤ length (now bytes) ⌝ }
     ensures { λ r. ⌜ take r (now (bytes .exit)) ≡ oddOf (take n (now (bytes .entry))) ⌝ }
-    ensures { λ r. ⌜ r ≤ 1 ⌝ }
+    ensures { λ r. ⌜ r ≡ n % 2 ⌝ }
 {
     if n % 2 == 0 {
         return 0;

@@ -3,10 +3,8 @@ use mathlib.Core.Path.{_≡_, refl, sym, ap, _∙_}
 use mathlib.Core.List.{List, [], _∷_, _++_}
 use Prim.Native.Nat.{ℕ, zero, suc, _+_, _*_, _/_, _%_, _<_}
 use native.Mathlib.Omega.{arith}
-use lib.IntN.{pos}
-use lib.Ieee.{Float, nan, round}
+use lib.Ieee.{Float, nan}
 use lib.ListN.{length, getD, take}
-use Rattle.math.specs.Numerals.{nought}
 use Rattle.pcm.specs.Header.{byteAt, word16}
 use Rattle.sixteen.specs.Sixteen.{sampleOf, fromI16}
 use Rattle.pcm.specs.Blocks.{samplesOf, lowOf, highOf, bytesOf}
@@ -35,11 +33,6 @@ getD-samples [] i h = absurd (omega arith)
 getD-samples (low ∷ []) i h = absurd (omega arith)
 getD-samples (low ∷ high ∷ bytes) zero h = refl
 getD-samples (low ∷ high ∷ bytes) (suc i) h = getD-samples bytes i (omega arith) ∙ ap (λ (w : ℕ). fromI16 (sampleOf w)) (sym (later low high bytes i))
-
--- the sample 0 is 0.0
-pub zero-sample : fromI16 (pos 0) ≡ nought
-unfolding fromI16 round
-zero-sample = refl
 
 -- ---- samples as bytes
 pub length-bytes : (xs : List Float) → length (bytesOf xs) ≡ 2 * length xs

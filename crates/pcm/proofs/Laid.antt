@@ -25,7 +25,7 @@ decodes bytes out out' n e l p =
     let h : n ≤ length out' = omega arith in
     record {
       count = e;
-      block = p ∙ laid (samplesOf bytes) out n (omega (arith, length-samples bytes));
+      laid = p ∙ laid (samplesOf bytes) out n (omega (arith, length-samples bytes));
       within = h;
       whole = sym (length-take-le n out' h);
     }
@@ -39,7 +39,7 @@ encodes xs out out' k e l p =
     let h : 2 * k ≤ length out' = omega arith in
     record {
       count = ap (λ (j : ℕ). 2 * j) e;
-      block =
+      laid =
           p
           ∙ laid (bytesOf xs) out (2 * k) (omega (arith, length-bytes xs))
           ∙ ap (λ (made : List ℕ). laidOver made out) (take-bytes k xs ∙ ap (λ (j : ℕ). bytesOf (take j xs)) (sym (half-of-twice k)));

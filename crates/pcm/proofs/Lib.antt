@@ -2,3 +2,4 @@
 pub mod Blocks
 mod Laid
 mod Ways
+pub mod Pinned

@@ -32,13 +32,13 @@ laidOver made out = made ++ drop (length made) out
 -- caller's `&out[..n]` asks
 pub record Decodes (bytes : List ℕ) (out out' : List Float) (n : ℕ) : Type 0 where
   pub count : n ≡ min (length bytes / 2) (length out)
-  pub block : out' ≡ laidOver (take n (samplesOf bytes)) out
+  pub laid : out' ≡ laidOver (take n (samplesOf bytes)) out
   pub within : n ≤ length out'
   pub whole : n ≡ length (take n out')
 
 -- a block encoded into `out`: as many samples as there are and as fit whole, in n bytes
 pub record Encodes (xs : List Float) (out out' : List ℕ) (n : ℕ) : Type 0 where
   pub count : n ≡ 2 * min (length xs) (length out / 2)
-  pub block : out' ≡ laidOver (bytesOf (take (n / 2) xs)) out
+  pub laid : out' ≡ laidOver (bytesOf (take (n / 2) xs)) out
   pub within : n ≤ length out'
   pub whole : n ≡ length (take n out')

@@ -15,7 +15,7 @@ pub use samples::decode;
 pub use samples::encode;
 
 // How many bytes a header has.
-pub const HEADER_LENGTH: usize = 13;
+const HEADER_LENGTH: usize = 13;
 
 // What the first bytes of a file say: why it is refused, or its source rate and its target rate.
 pub enum Header {

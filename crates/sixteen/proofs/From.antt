@@ -15,7 +15,7 @@ use mir.Syntax.{w16}
 use mir.Val.{SFits}
 use Rattle.sixteen.specs.Sixteen.{halfUp, clamped, toI16, fromI16}
 
--- ---- a back-whole number over 32768
+-- ---- a whole number over 32768
 over-cross : (a c n : ℕ) → a * 1 ≡ n * c → a * 1 * 32768 ≡ n * (1 * 32768 * c)
 over-cross a c n h = ap (λ (k : ℕ). k * 32768) h ∙ simp (mul-assoc, mul-comm, mul-left-comm, mul-one)
 

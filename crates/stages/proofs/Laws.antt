@@ -2,11 +2,11 @@
 use mathlib.Core.Path.{_≡_, sym, _∙_, ap}
 use mathlib.Core.Bool.{Bool, _||_}
 use mathlib.Core.List.{List, _++_}
-use Prim.Native.Nat.{ℕ, _*_, _/_, _≤_}
+use Prim.Native.Nat.{ℕ, _*_, _/_, _%_, _≤_}
 use native.Mathlib.Omega.{arith}
 use lib.Dec.{ltb}
 use lib.Ieee.{Float}
-use lib.ListN.{length, take, drop, replicate, length-take, length-replicate, take-append-drop}
+use lib.ListN.{length, take, drop, replicate, length-take, length-drop, length-replicate, take-append-drop}
 use lib.Seq.{take-all, length-paste, take-take, take-append-seam}
 use Rattle.math.specs.Numerals.{nought}
 use Rattle.history.specs.Zeroed.{zeroed}
@@ -35,7 +35,7 @@ encodes-all {xs} {text} {text'} {size} room e =
     let half : size / 2 ≡ length xs = omega (arith, e .count) in
     record {
       count = omega (arith, e .count, length-bytes xs);
-      block = e .block ∙ ap (λ (ys : List Float). laidOver (bytesOf ys) text) (take-all (size / 2) xs (omega arith));
+      laid = e .laid ∙ ap (λ (ys : List Float). laidOver (bytesOf ys) text) (take-all (size / 2) xs (omega arith));
       within = e .within;
       whole = e .whole;
     }
@@ -49,7 +49,7 @@ module _ {bytes : List ℕ} {out out' : List Float} {count : ℕ} (room : length
   decodes-all =
       let xs = samplesOf bytes in
       let many : count ≡ length xs = omega (arith, decodes-count, length-samples bytes) in
-      ap (take count) (d .block ∙ ap (λ (ys : List Float). laidOver ys out) (take-all count xs (omega arith)))
+      ap (take count) (d .laid ∙ ap (λ (ys : List Float). laidOver ys out) (take-all count xs (omega arith)))
       ∙ ap (λ (k : ℕ). take k (laidOver xs out)) many
       ∙ take-append-seam xs (drop (length xs) out)
 
@@ -118,7 +118,7 @@ pub feeds : (k r : Kept) (bytes bytes' : List ℕ) (n : ℕ) {mem coefs out mem'
     → k .held ≤ n → n ≤ length bytes → n / 2 ≤ length samples
     → Decodes (take n bytes) samples samples' count
     → Pulls (bareStage (k .state) mem coefs out) (take count samples') text p mem' out' text'
-    → (take (r .held) bytes' ≡ oddOf (take n bytes)) × (r .held ≤ 1)
+    → (take (r .held) bytes' ≡ oddOf (take n bytes)) × (r .held ≡ n % 2)
     → r .state ≡ p .state → r .came ≡ k .came || ltb 0 count → r .size ≡ p .size
     → Feeds (stageOf k mem coefs out bytes) (drop (k .held) (take n bytes)) text r (stageOf r mem' coefs out' bytes') text'
 feeds k r bytes bytes' n {mem} {coefs} {out} {mem'} {out'} {samples} {samples'} {text} {text'} {count} {p} held within room d q o s c z =
@@ -129,6 +129,10 @@ feeds k r bytes bytes' n {mem} {coefs} {out} {mem'} {out'} {samples} {samples'} 
     let came : r .came ≡ k .came || ltb 0 (length b / 2) = c ∙ ap (λ (m : ℕ). k .came || ltb 0 m) (decodes-count fits d) in
     record {
       stage = rw (cut-at (k .held) n bytes held, s ∙ q' .state, q' .history, q' .output, o .0, came);
-      held-to = o .1;
+      held-is =
+          o .1
+          ∙ rw (cut-at (k .held) n bytes held)
+          (sym (length-drop (2 * (length b / 2)) b ∙ omega arith));
+      held-to = omega (arith, o .1);
       handed-on = rw (cut-at (k .held) n bytes held, z) (q' .handed-on);
     }

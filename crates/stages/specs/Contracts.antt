@@ -8,7 +8,8 @@ use lib.Ieee.{Float}
 use lib.ListN.{length, take}
 use Rattle.state.specs.declared.ResamplerState.{ResamplerState}
 use Rattle.pcm.specs.Blocks.{samplesOf, laidOver}
-use Rattle.stages.specs.Stages.{Stage, opened, pulled, handed, block, fed}
+use Rattle.edges.specs.Edges.{oddOf}
+use Rattle.stages.specs.Stages.{Stage, openedStage, pulled, handed, block, fed}
 use Rattle.stages.specs.declared.Kept.{Kept}
 use Rattle.stages.specs.declared.Pulled.{Pulled}
 
@@ -23,15 +24,15 @@ stageOf k mem coefs out bytes =
 
 -- opening
 pub record Opens (source target : ℕ) (mem coefs : List Float) (r : ResamplerState) (mem' coefs' : List Float) : Type 0 where
-  pub state : r ≡ opened source target mem coefs [] .state
-  pub history : mem' ≡ opened source target mem coefs [] .mem
-  pub coefficients : coefs' ≡ opened source target mem coefs [] .coefs
+  pub state : r ≡ openedStage source target mem coefs [] .state
+  pub history : mem' ≡ openedStage source target mem coefs [] .mem
+  pub coefficients : coefs' ≡ openedStage source target mem coefs [] .coefs
 
 -- these bytes stand at the start of `text`, and the rest of it stays. The last two fields follow from the others, and are what a caller's
 -- `&text[..size]` asks
 pub record HandedOn (bytes text text' : List ℕ) (size : ℕ) : Type 0 where
   pub count : size ≡ length bytes
-  pub block : text' ≡ laidOver bytes text
+  pub laid : text' ≡ laidOver bytes text
   pub within : size ≤ length text'
   pub whole : size ≡ length (take size text')
 
@@ -42,8 +43,9 @@ pub record Pulls (g : Stage) (input : List Float) (text : List ℕ) (r : Pulled)
   pub output : out' ≡ pulled g input .out
   pub handed-on : HandedOn (handed g input) text text' (r .size)
 
--- one block
+-- one block. `held-to` follows from the rest, and is what the loop over the reads asks
 pub record Feeds (g : Stage) (read text : List ℕ) (r : Kept) (g' : Stage) (text' : List ℕ) : Type 0 where
   pub stage : g' ≡ fed g read
+  pub held-is : r .held ≡ length (oddOf (block g read))
   pub held-to : r .held ≤ 1
   pub handed-on : HandedOn (handed g (samplesOf (block g read))) text text' (r .size)

@@ -22,8 +22,8 @@ pub record Stage : Type 0 where
   pub came : Bool
 
 -- before the first read: a new state, and its source rate set
-abbrev pub opened : ℕ → ℕ → List Float → List Float → List Float → Stage
-opened source target mem coefs out =
+abbrev pub openedStage : ℕ → ℕ → List Float → List Float → List Float → Stage
+openedStage source target mem coefs out =
     let fresh = newTold target .state in
     record {
       state = rateTold house fresh source mem coefs .state;

@@ -27,7 +27,8 @@ pub struct Pulled {
     pub size: usize,
 }
 
-// A new state, and its source rate set. A rate out of limits leaves a state that refuses every call.
+// A new state, and its source rate set. A rate out of limits leaves a state with which every call of
+// `process_float` is refused.
 pub fn open(source: u32, target: u32, mem: &mut [f32], coefs: &mut [f32]) -> ResamplerState
     ensures { λ r. ⌜ Opens source target (now (mem .entry)) (now (coefs .entry)) r (now (mem .exit)) (now (coefs .exit)) ⌝ }
 {
