@@ -1,6 +1,6 @@
 -- What each verdict says of the state and the lengths, for those who act on it. Assumes nothing.
 use mathlib.Core.Path.{_≡_, refl}
-use mathlib.Core.Bool.{Bool, true, false, not, cond}
+use mathlib.Core.Bool.{Bool, true, false, not, cond, _||_, true≢false}
 use Prim.Native.Nat.{ℕ, _≤_}
 use native.Mathlib.Omega.{arith}
 use borrow.Author.Tests.{ne-eqb, eqb-false, ltb-false, not-false}
@@ -13,6 +13,7 @@ use Rattle.state.specs.State.{zeroState, settingIn}
 use Rattle.state.specs.Belongs.{belongsTogether}
 use Rattle.state.specs.declared.ResamplerState.{ResamplerState}
 use Rattle.state.proofs.Belonging.{zero-refused}
+use Rattle.judge.specs.Refusals.{maxCall}
 use Rattle.judge.specs.Verdicts.{refuseIf, historyAfter, newVerdict, rateVerdict, processVerdict, resetVerdict, skipVerdict}
 use Rattle.judge.specs.declared.Refusal.{Refusal}
 use Rattle.judge.specs.declared.Refusal.the-variants.{Coefficients, State}
@@ -27,6 +28,11 @@ past false r rest e = (refl, e)
 -- nor the test that leads round the others
 unless : (t : Bool) (rest : Verdict) → t ≡ false → cond t Accept rest ≡ Accept → rest ≡ Accept
 unless t rest f e = rw f at e
+
+-- nor either of two
+neither : (a b : Bool) → a || b ≡ false → (a ≡ false) × (b ≡ false)
+neither true b e = absurd (true≢false e)
+neither false b e = (refl, e)
 
 -- ---- new state
 pub new-accepts : (target : ℕ) → newVerdict target ≡ Accept → InLimits target
@@ -78,6 +84,20 @@ process-accepts row s mem coefs inn room e =
       history = ltb-false mem (s .«mem_alloc_size») (p2 .0);
       coefficients = ltb-false coefs (settingIn s .coefs) (p3 .0);
     }
+
+-- nor is the input or the output too long
+pub process-lengths : (row : QualityMapping) (s : ResamplerState) (mem coefs inn room : ℕ)
+    → processVerdict row s mem coefs inn room ≡ Accept → (inn ≤ maxCall) × (room ≤ maxCall)
+unfolding processVerdict
+process-lengths row s mem coefs inn room e =
+    let p7 = past (not (belongsTogether row s)) _ _ e in
+    let p6 = past (eqb (s .source) 0) _ _ (p7 .1) in
+    let p2 = past (ltb mem (s .«mem_alloc_size»)) _ _ (p6 .1) in
+    let p3 = past (ltb coefs (settingIn s .coefs)) _ _ (p2 .1) in
+    let p4 = past (eqb inn 0) _ _ (p3 .1) in
+    let p5 = past (ltb maxCall inn || ltb maxCall room) _ Accept (p4 .1) in
+    let (i, o) = neither (ltb maxCall inn) (ltb maxCall room) (p5 .0) in
+    (ltb-false maxCall inn i, ltb-false maxCall room o)
 
 -- ---- reset and skip
 pub record ResetAccepted (row : QualityMapping) (s : ResamplerState) (mem : ℕ) : Type 0 where

@@ -25,10 +25,11 @@ use Rattle.reshape.proofs.Excess.{reshaped-keeps}
 use Rattle.rounds.specs.Output.{weighOf}
 use Rattle.state.specs.State.{settingIn}
 use Rattle.state.specs.declared.ResamplerState.{ResamplerState}
+use Rattle.judge.specs.Refusals.{maxCall}
 use Rattle.judge.specs.Verdicts.{rateVerdict, processVerdict, resetVerdict, skipVerdict}
 use Rattle.judge.specs.declared.Verdict.{Verdict}
 use Rattle.judge.specs.declared.Verdict.the-variants.{Accept}
-use Rattle.judge.proofs.Judged.{process-accepts, reset-accepts}
+use Rattle.judge.proofs.Judged.{process-accepts, process-lengths, reset-accepts}
 use Rattle.update.specs.Updated.{changeOf, withSetting, updatedState}
 use Rattle.update.proofs.Updates as updates
 use Rattle.process.specs.Process.{rateIn, placeIn, played, playedOutput}
@@ -174,3 +175,18 @@ module _ (row : QualityMapping) (sane : Sane row) (s : ResamplerState) (mem coef
       judgedCall
       (λ r. record { consumed = omega arith; written = omega arith; rest = kept-all 0 out })
       played-past
+
+  -- a call reads and writes at most the most that one call may
+  pub process-within : (processTold row s mem coefs input out .consumed ≤ maxCall) × (processTold row s mem coefs input out .written ≤ maxCall)
+  unfolding processTold
+  process-within =
+      cases
+      (λ (v : Verdict).
+      (byVerdict v (λ r. refused r s) (playedTold s (length input) (length out) (done .numbers)) .consumed ≤ maxCall)
+      × (byVerdict v (λ r. refused r s) (playedTold s (length input) (length out) (done .numbers)) .written ≤ maxCall))
+      judgedCall
+      (λ r. (omega arith, omega arith))
+      (λ v.
+      let long = process-lengths row s (length mem) (length coefs) (length input) (length out) v in
+      let p = played-past v in
+      (omega (arith, p .consumed, long .0), omega (arith, p .written, long .1)))

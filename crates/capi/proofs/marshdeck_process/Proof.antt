@@ -1,0 +1,70 @@
+-- `marshdeck_process` meets its contract: no state has the numbers, or the resampler was called with the one that has. Assumes nothing.
+use mathlib.Core.Path.{_≡_, sym, _∙_}
+use mathlib.Core.Bool.{true}
+use borrow.Author.Tests.{not-true, not-false}
+use lib.Dec.{leb}
+use denote.Ref.{now}
+use borrow.Author.Needs.{needs}
+use Rattle.capi.proofs.Counts.{process-fits}
+use Rattle.capi.proofs.Held.{no-process, processes}
+use Rattle.capi.proofs.marshdeck_process.Statement.{statement}
+use Rattle.capi.proofs.marshdeck_process.Tie as tie
+
+-- the way back: from the resampler's call to the test and to the start
+abbrev test : tie.After-process-float → tie.Else1
+test c = c .before .before .before .before
+
+abbrev start : tie.Else1 → tie.Start
+start c = c .before .before .before .before .before .before
+
+-- a state has the numbers
+yes : (c : tie.Else1) → leb (start c .args .state .kernel) 2 ≡ true
+yes c = sym (c .before .is-held .ensures) ∙ not-false _ (c .if1 .left)
+
+is-held-requires : tie.Need-is-held-requires
+is-held-requires c κs = search needs
+
+not-held-requires : tie.Need-not-held-requires
+not-held-requires c κs = search needs
+
+returns : tie.Need-returns
+returns c =
+    let a = c .before .before .before .before .before .before .before .args in
+    no-process (a .state) (sym (c .before .before .is-held .ensures) ∙ not-true _ (c .before .if1 .taken)) (c .not-held .ensures) (now (a .mem)) (now (a .coefs)) (now (a .input)) (now (a .out))
+
+state-of-requires : tie.Need-state-of-requires
+state-of-requires c κs = search needs
+
+process-float-requires : tie.Need-process-float-requires
+process-float-requires c κs = search needs
+
+flat-answer-requires : tie.Need-flat-answer-requires
+flat-answer-requires c κs =
+    let a = start (test (c .before .before .before .before)) .args in
+    rw (c .before .before .before .before .process-float .ensures .tells) (process-fits _ (now (a .mem)) (now (a .coefs)) (now (a .input)) (now (a .out)))
+
+same-length : tie.Need-same-length
+same-length c = search needs
+
+same-length-2 : tie.Need-same-length-2
+same-length-2 c = search needs
+
+returns-2 : tie.Need-returns-2
+returns-2 c =
+    let d = c .before .before .before .before .before in
+    let a = start (test d) .args in
+    processes (a .state) (yes (test d)) (d .before .before .before .state-of .ensures) (d .process-float .result) (c .flat-answer .ensures) (now (a .mem)) (now (a .coefs)) (now (a .input)) (now (a .out)) (d .process-float .ensures)
+
+pub marshdeck-process-spec : {M : Type 1} → statement M
+marshdeck-process-spec =
+    tie.close
+    (tie.spec
+    is-held-requires
+    not-held-requires
+    returns
+    state-of-requires
+    process-float-requires
+    flat-answer-requires
+    same-length
+    same-length-2
+    returns-2)

@@ -1,0 +1,66 @@
+-- `marshdeck_reset` meets its contract: no state has the numbers, or the resampler was called with the one that has. Assumes nothing.
+use mathlib.Core.Path.{_≡_, sym, _∙_}
+use mathlib.Core.Bool.{true}
+use borrow.Author.Tests.{not-true, not-false}
+use lib.Dec.{leb}
+use denote.Ref.{now}
+use borrow.Author.Needs.{needs}
+use Rattle.capi.proofs.Counts.{reset-within}
+use Rattle.capi.proofs.Held.{no-reset, resets}
+use Rattle.capi.proofs.marshdeck_reset.Statement.{statement}
+use Rattle.capi.proofs.marshdeck_reset.Tie as tie
+
+-- the way back: from the resampler's call to the test and to the start
+abbrev test : tie.After-reset-mem → tie.Else1
+test c = c .before .before .before
+
+abbrev start : tie.Else1 → tie.Start
+start c = c .before .before .before
+
+-- a state has the numbers
+yes : (c : tie.Else1) → leb (start c .args .state .kernel) 2 ≡ true
+yes c = sym (c .before .is-held .ensures) ∙ not-false _ (c .if1 .left)
+
+is-held-requires : tie.Need-is-held-requires
+is-held-requires c κs = search needs
+
+not-held-requires : tie.Need-not-held-requires
+not-held-requires c κs = search needs
+
+returns : tie.Need-returns
+returns c =
+    let a = c .before .before .before .before .args in
+    no-reset (a .state) (sym (c .before .before .is-held .ensures) ∙ not-true _ (c .before .if1 .taken)) (c .not-held .ensures) (now (a .mem))
+
+state-of-requires : tie.Need-state-of-requires
+state-of-requires c κs = search needs
+
+reset-mem-requires : tie.Need-reset-mem-requires
+reset-mem-requires c κs = search needs
+
+flat-answer-requires : tie.Need-flat-answer-requires
+flat-answer-requires c κs =
+    let a = start (test (c .before .before)) .args in
+    rw (c .before .before .reset-mem .ensures .tells) (reset-within _ (now (a .mem)))
+
+same-length : tie.Need-same-length
+same-length c = search needs
+
+returns-2 : tie.Need-returns-2
+returns-2 c =
+    let d = c .before .before .before in
+    let a = start (test d) .args in
+    resets (a .state) (yes (test d)) (d .before .before .state-of .ensures) (d .reset-mem .result) (c .flat-answer .ensures) (now (a .mem)) (d .reset-mem .ensures)
+
+pub marshdeck-reset-spec : {M : Type 1} → statement M
+marshdeck-reset-spec =
+    tie.close
+    (tie.spec
+    is-held-requires
+    not-held-requires
+    returns
+    state-of-requires
+    reset-mem-requires
+    flat-answer-requires
+    same-length
+    returns-2)

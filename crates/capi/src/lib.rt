@@ -1,0 +1,130 @@
+// The resampler for callers in C, and so in every language that calls C: `include/marshdeck.h` declares
+// what is exported here.
+use flat::FlatAnswer;
+use flat::FlatSizes;
+use flat::FlatState;
+use flat::FlatTotal;
+use judge::Refusal;
+use quality::QualityMapping;
+use rates::Setting;
+use resampler::Consumed;
+ghost use mathlib.Core.Path.{_≡_};
+ghost use Rattle.quality.specs.House.{house};
+ghost use Rattle.sine.specs.Sine.{sineAt};
+ghost use Rattle.sixteen.specs.Sixteen.{fromI16, toI16};
+ghost use Rattle.resampler.specs.Entries.{newTold, skipTold};
+ghost use Rattle.recording.specs.Totals.{closedTotalTold};
+ghost use Rattle.flat.specs.Flat.{flatTold, flatCall, flatTotal};
+ghost use Rattle.capi.specs.Contracts.{FlatSetsRate, FlatProcesses, FlatResets, neededSizes};
+
+#[no_mangle]
+pub extern "C" fn marshdeck_new(target_hz: u32) -> FlatAnswer
+    ensures { λ r. ⌜ r ≡ flatTold (newTold «target_hz») ⌝ }
+{
+    flat::flat_answer(resampler::new(target_hz))
+}
+
+#[no_mangle]
+pub extern "C" fn marshdeck_set_rate(
+    state: FlatState,
+    source_hz: u32,
+    mem: &mut [f32],
+    coefs: &mut [f32],
+) -> FlatAnswer
+    ensures { λ r. ⌜ FlatSetsRate state «source_hz» (now (mem .entry)) (now (coefs .entry)) r (now (mem .exit)) (now (coefs .exit)) ⌝ }
+{
+    if !flat::is_held(state) {
+        return flat::not_held(state);
+    }
+    flat::flat_answer(resampler::source_hz(flat::state_of(state), source_hz, mem, coefs))
+}
+
+#[no_mangle]
+pub extern "C" fn marshdeck_process(
+    state: FlatState,
+    mem: &mut [f32],
+    coefs: &[f32],
+    input: &[f32],
+    out: &mut [f32],
+) -> FlatAnswer
+    ensures { λ r. ⌜ FlatProcesses state (now (mem .entry)) (now (coefs .entry)) (now (input .entry)) (now (out .entry)) r (now (mem .exit)) (now (out .exit)) ⌝ }
+{
+    if !flat::is_held(state) {
+        return flat::not_held(state);
+    }
+    flat::flat_answer(resampler::process_float(flat::state_of(state), mem, coefs, input, out))
+}
+
+#[no_mangle]
+pub extern "C" fn marshdeck_reset(state: FlatState, mem: &mut [f32]) -> FlatAnswer
+    ensures { λ r. ⌜ FlatResets state (now (mem .entry)) r (now (mem .exit)) ⌝ }
+{
+    if !flat::is_held(state) {
+        return flat::not_held(state);
+    }
+    flat::flat_answer(resampler::reset_mem(flat::state_of(state), mem))
+}
+
+#[no_mangle]
+pub extern "C" fn marshdeck_skip(state: FlatState) -> FlatAnswer
+    ensures { λ r. ⌜ r ≡ flatCall state (λ s. skipTold house s) ⌝ }
+{
+    if !flat::is_held(state) {
+        return flat::not_held(state);
+    }
+    flat::flat_answer(resampler::skip_zeros(flat::state_of(state)))
+}
+
+#[no_mangle]
+pub extern "C" fn marshdeck_to_i16(x: f32) -> i16
+    ensures { λ r. ⌜ r ≡ toI16 x ⌝ }
+{
+    sixteen::to_i16(x)
+}
+
+#[no_mangle]
+pub extern "C" fn marshdeck_from_i16(sample: i16) -> f32
+    ensures { λ r. ⌜ r ≡ fromI16 sample ⌝ }
+{
+    sixteen::from_i16(sample)
+}
+
+#[no_mangle]
+pub extern "C" fn marshdeck_sine(a: f64) -> f64
+    ensures { λ r. ⌜ r ≡ sineAt a ⌝ }
+{
+    sine::sine(a)
+}
+
+#[no_mangle]
+pub extern "C" fn marshdeck_closed_total(m: u64, source_hz: u32, target_hz: u32) -> FlatTotal
+    ensures { λ r. ⌜ r ≡ flatTotal (closedTotalTold «source_hz» «target_hz» m) ⌝ }
+{
+    flat::flat_total(recording::closed_total(Consumed(m), source_hz, target_hz))
+}
+
+#[no_mangle]
+pub extern "C" fn marshdeck_needed(source_hz: u32, target_hz: u32) -> FlatSizes
+    ensures { λ r. ⌜ r ≡ neededSizes «source_hz» «target_hz» ⌝ }
+{
+    if !sizes::in_limits(source_hz) {
+        return FlatSizes {
+            refusal: Refusal::Rate.number(),
+            history: 0,
+            coefficients: 0,
+        };
+    }
+    if !sizes::in_limits(target_hz) {
+        return FlatSizes {
+            refusal: Refusal::Rate.number(),
+            history: 0,
+            coefficients: 0,
+        };
+    }
+    let setting = Setting::new(QualityMapping::house(), source_hz, target_hz);
+    FlatSizes {
+        refusal: 0,
+        history: sizes::history_needed(setting.filt_len),
+        coefficients: setting.coefs,
+    }
+}

@@ -1,0 +1,2 @@
+-- What crosses to C. Assumes nothing.
+pub mod Flat

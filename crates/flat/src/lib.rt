@@ -1,0 +1,198 @@
+// The flat twins: what crosses to C and back. An enum does not cross, nor a struct that holds one, so a
+// kernel is its number there, and a refusal too.
+//
+// A flat state may hold any numbers. The one that no state has a place for is a kernel above 2.
+use judge::Refusal;
+use rates::Kernel;
+use recording::Total;
+use resampler::Answer;
+use state::ResamplerState;
+ghost use mathlib.Core.Path.{_≡_};
+ghost use Prim.Native.Nat.{_≤_};
+ghost use lib.Dec.{leb};
+ghost use Rattle.state.specs.Belongs.{kernelNumber};
+ghost use Rattle.judge.specs.Refusals.{maxCall};
+ghost use Rattle.resampler.specs.Answers.{told};
+ghost use Rattle.recording.specs.Totals.{totalTold};
+ghost use Rattle.flat.specs.Flat.{kernelAt, flatOf, stateOf, flatTold, noState, flatTotal};
+
+// The highest number that a kernel has.
+const LAST_KERNEL: u32 = 2;
+
+// What a count above `closed_total`'s limit gets: not a number of document 01, and far from those that
+// it has.
+const TOO_MANY: u32 = 100;
+
+#[repr(C)]
+pub struct FlatState {
+    pub target: u32,
+    pub source: u32,
+    pub num: u32,
+    pub den: u32,
+    pub filt_len: u32,
+    pub mem_alloc_size: u32,
+    pub buffer_size: u32,
+    pub int_advance: u32,
+    pub frac_advance: u32,
+    pub cutoff: f32,
+    pub oversample: u32,
+    pub started: u32,
+    pub kernel: u32,
+    pub last_sample: u32,
+    pub samp_frac_num: u32,
+    pub magic_samples: u32,
+}
+
+// What a call answers: a refusal's number, 0 where it is accepted, the counts, and the state.
+#[repr(C)]
+pub struct FlatAnswer {
+    pub refusal: u32,
+    pub consumed: u32,
+    pub written: u32,
+    pub state: FlatState,
+}
+
+#[repr(C)]
+pub struct FlatTotal {
+    pub refusal: u32,
+    pub total: u64,
+}
+
+#[repr(C)]
+pub struct FlatSizes {
+    pub refusal: u32,
+    pub history: u32,
+    pub coefficients: u32,
+}
+
+// Whether there is a state with these numbers.
+pub fn is_held(flat: FlatState) -> bool
+    ensures { λ r. ⌜ r ≡ leb (flat .kernel) 2 ⌝ }
+{
+    flat.kernel <= LAST_KERNEL
+}
+
+fn kernel_at(number: u32) -> Kernel
+    ensures { λ r. ⌜ r ≡ kernelAt number ⌝ }
+{
+    if number == 0 {
+        return Kernel::Unset;
+    }
+    if number == 1 {
+        return Kernel::Direct;
+    }
+    Kernel::Interpolated
+}
+
+fn kernel_number(kernel: Kernel) -> u32
+    ensures { λ r. ⌜ r ≡ kernelNumber kernel ⌝ }
+{
+    match kernel {
+        Kernel::Unset => 0,
+        Kernel::Direct => 1,
+        Kernel::Interpolated => 2,
+    }
+}
+
+// The state with these numbers.
+pub fn state_of(flat: FlatState) -> ResamplerState
+    ensures { λ r. ⌜ r ≡ stateOf flat ⌝ }
+{
+    ResamplerState {
+        target: flat.target,
+        source: flat.source,
+        num: flat.num,
+        den: flat.den,
+        filt_len: flat.filt_len,
+        mem_alloc_size: flat.mem_alloc_size,
+        buffer_size: flat.buffer_size,
+        int_advance: flat.int_advance,
+        frac_advance: flat.frac_advance,
+        cutoff: flat.cutoff,
+        oversample: flat.oversample,
+        started: flat.started,
+        kernel: kernel_at(flat.kernel),
+        last_sample: flat.last_sample,
+        samp_frac_num: flat.samp_frac_num,
+        magic_samples: flat.magic_samples,
+    }
+}
+
+// The numbers of a state.
+fn flat_of(state: ResamplerState) -> FlatState
+    ensures { λ r. ⌜ r ≡ flatOf state ⌝ }
+{
+    let kernel = state.kernel;
+    FlatState {
+        target: state.target,
+        source: state.source,
+        num: state.num,
+        den: state.den,
+        filt_len: state.filt_len,
+        mem_alloc_size: state.mem_alloc_size,
+        buffer_size: state.buffer_size,
+        int_advance: state.int_advance,
+        frac_advance: state.frac_advance,
+        cutoff: state.cutoff,
+        oversample: state.oversample,
+        started: state.started,
+        kernel: kernel_number(kernel),
+        last_sample: state.last_sample,
+        samp_frac_num: state.samp_frac_num,
+        magic_samples: state.magic_samples,
+    }
+}
+
+// The answer to a flat state that is none: refusal 7, and the numbers as they were given.
+pub fn not_held(flat: FlatState) -> FlatAnswer
+    ensures { λ r. ⌜ r ≡ noState flat ⌝ }
+{
+    FlatAnswer {
+        refusal: Refusal::State.number(),
+        consumed: 0,
+        written: 0,
+        state: flat,
+    }
+}
+
+// What an answer tells. A call reads and writes at most 16,777,216 samples, so no count is cut.
+pub fn flat_answer(answer: Answer) -> FlatAnswer
+    requires { ⌜ (told answer .consumed ≤ maxCall) × (told answer .written ≤ maxCall) ⌝ }
+    ensures { λ r. ⌜ r ≡ flatTold (told answer) ⌝ }
+{
+    match answer {
+        Answer::Refused(refusal, state) => {
+            FlatAnswer {
+                refusal: refusal.number(),
+                consumed: 0,
+                written: 0,
+                state: flat_of(state),
+            }
+        }
+        Answer::Accepted(state, consumed, written) => FlatAnswer {
+            refusal: 0,
+            consumed: consumed.0 as u32,
+            written: written.0 as u32,
+            state: flat_of(state),
+        },
+    }
+}
+
+pub fn flat_total(total: Total) -> FlatTotal
+    ensures { λ r. ⌜ r ≡ flatTotal (totalTold total) ⌝ }
+{
+    match total {
+        Total::Refused(refusal) => FlatTotal {
+            refusal: refusal.number(),
+            total: 0,
+        },
+        Total::TooMany => FlatTotal {
+            refusal: TOO_MANY,
+            total: 0,
+        },
+        Total::Closed(written) => FlatTotal {
+            refusal: 0,
+            total: written.0,
+        },
+    }
+}

@@ -1,0 +1,132 @@
+/* Marshdeck's resampler for C: one channel of f32, from any source rate in limits to a target rate.
+ *
+ * Link with libcapi.a, which `rt staticlib capi` writes, and with -lm (it calls fmod). Nothing here allocates, keeps a pointer, or has a
+ * state of its own: all that is kept between two calls is in the caller's marshdeck_state and in the two
+ * buffers that the caller lends. Calls on different states and buffers may run at the same time.
+ *
+ * Whatever the numbers are, a call comes back: a bad one gets a number, counts of 0 and the state that it
+ * was given, and its buffers keep their contents.
+ *
+ * What the caller has to promise, and nothing here can see, is said of pointers alone:
+ *   - a pointer with its length points to that many floats, aligned as floats are; those of a const pointer
+ *     may be read, the others read and written, and all of them hold some value, NaN being one;
+ *   - while a call runs nobody else writes what it was lent, or reads what it may write;
+ *   - a buffer that is not const overlaps none of the others of the same call (input and coefficients may
+ *     overlap each other);
+ *   - where the length is 0 the pointer may be NULL. */
+#ifndef MARSHDECK_H
+#define MARSHDECK_H
+
+#include <stddef.h>
+#include <stdint.h>
+
+/* Goes up by one with each change of a struct, a function or a number below. */
+#define MARSHDECK_VERSION 1
+
+#ifdef __cplusplus
+extern "C" {
+#endif
+
+/* Why a call is refused, and 0 where it is accepted. */
+#define MARSHDECK_ACCEPTED 0
+#define MARSHDECK_RATE 1         /* a rate is not from 4,000 to 192,000 Hz */
+#define MARSHDECK_HISTORY 2      /* mem is shorter than needed */
+#define MARSHDECK_COEFFICIENTS 3 /* coefs is shorter than needed */
+#define MARSHDECK_EMPTY_INPUT 4  /* the input is empty */
+#define MARSHDECK_TOO_LONG 5     /* the input or the output is longer than 16,777,216 */
+#define MARSHDECK_NO_RATE 6      /* no source rate was set */
+#define MARSHDECK_STATE 7        /* the state's numbers don't belong together */
+#define MARSHDECK_TOO_MANY 100   /* marshdeck_closed_total alone: more than 2^40 samples */
+
+/* What no two rates in limits go beyond. */
+#define MARSHDECK_MAX_HISTORY 7839
+#define MARSHDECK_MAX_COEFFICIENTS 7688
+#define MARSHDECK_MAX_CALL 16777216
+
+/* All that the resampler keeps between two calls but the samples and the coefficients. Copy it freely. It
+ * may hold any numbers; those that don't belong together get MARSHDECK_STATE. */
+typedef struct {
+    uint32_t target;         /* Hz */
+    uint32_t source;         /* Hz; 0 before a source rate was set */
+    uint32_t num;            /* source over target in lowest terms */
+    uint32_t den;
+    uint32_t filt_len;       /* the filter's length, n */
+    uint32_t mem_alloc_size; /* how many entries of mem are in use */
+    uint32_t buffer_size;    /* 160 */
+    uint32_t int_advance;    /* num over den, whole and rest */
+    uint32_t frac_advance;
+    float cutoff;            /* a NaN comes back as some NaN, not always with the same bits */
+    uint32_t oversample;
+    uint32_t started;        /* 1 once samples were processed */
+    uint32_t kernel;         /* 0 none, 1 direct, 2 interpolated */
+    uint32_t last_sample;    /* position */
+    uint32_t samp_frac_num;  /* phase */
+    uint32_t magic_samples;  /* samples that a rate change left over in mem */
+} marshdeck_state;
+
+typedef struct {
+    uint32_t refusal;      /* 0, or why the call is refused: then both counts are 0 */
+    uint32_t consumed;     /* samples read from the input */
+    uint32_t written;      /* samples written to the output */
+    marshdeck_state state; /* for the next call; of a refused call the one that was given */
+} marshdeck_answer;
+
+/* A new state. Refusal 1; then all its numbers are 0. */
+marshdeck_answer marshdeck_new(uint32_t target_hz);
+
+/* Sets the source rate. Refusals 7, 1, 2, 3, in that order. The rate that is set already is accepted with
+ * no look at the buffers. marshdeck_needed says how long they have to be; mem also never less than
+ * state.mem_alloc_size. Entries past what is needed stay.
+ *
+ * mem and coefs belong to the state from here on: lend them unchanged to the calls that follow. Before the
+ * first rate is set, any values may be in them. */
+marshdeck_answer marshdeck_set_rate(marshdeck_state state, uint32_t source_hz,
+                                    float *mem, size_t mem_len,
+                                    float *coefs, size_t coefs_len);
+
+/* Resamples: reads from in and writes to out until one of them is used up. Refusals 7, 6, 2, 3, 4, 5, in that
+ * order. What was not consumed has to be offered again. Room for nothing (out_len 0) is accepted; an empty
+ * input is refused. out keeps what it had past `written`. */
+marshdeck_answer marshdeck_process(marshdeck_state state,
+                                   float *mem, size_t mem_len,
+                                   const float *coefs, size_t coefs_len,
+                                   const float *in, size_t in_len,
+                                   float *out, size_t out_len);
+
+/* Makes the state ready for another stream at the same rate: what is used of mem becomes 0. Refusals 7, 2. */
+marshdeck_answer marshdeck_reset(marshdeck_state state, float *mem, size_t mem_len);
+
+/* Leaves out the filter's run-in: the position becomes filt_len / 2. Refusal 7. */
+marshdeck_answer marshdeck_skip(marshdeck_state state);
+
+/* x times 32768, to the nearest whole number, halves away from zero, clamped; NaN gives 0. */
+int16_t marshdeck_to_i16(float x);
+
+/* A sample divided by 32768, exactly. */
+float marshdeck_from_i16(int16_t sample);
+
+/* The sine that the coefficients are made with. Meant for angles up to 256 in size. */
+double marshdeck_sine(double angle);
+
+typedef struct {
+    uint32_t refusal; /* 0, MARSHDECK_RATE or MARSHDECK_TOO_MANY */
+    uint64_t total;   /* 0 where refused */
+} marshdeck_total;
+
+/* How many samples a closed recording of m samples becomes: m * den / num, rounded up. Closed means that
+ * filt_len / 2 zeros were read after its samples. */
+marshdeck_total marshdeck_closed_total(uint64_t m, uint32_t source_hz, uint32_t target_hz);
+
+typedef struct {
+    uint32_t refusal;      /* 0 or MARSHDECK_RATE */
+    uint32_t history;      /* floats in mem for a new state; 0 where refused */
+    uint32_t coefficients; /* floats in coefs; 0 where refused */
+} marshdeck_sizes;
+
+/* How long the buffers have to be for these two rates. */
+marshdeck_sizes marshdeck_needed(uint32_t source_hz, uint32_t target_hz);
+
+#ifdef __cplusplus
+}
+#endif
+#endif
