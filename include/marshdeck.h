@@ -1,19 +1,20 @@
 /* Marshdeck's resampler for C: one channel of f32, from any source rate in limits to a target rate.
  *
- * Link with libcapi.a, which `rt staticlib capi` writes, and with -lm (it calls fmod). Nothing here allocates, keeps a pointer, or has a
- * state of its own: all that is kept between two calls is in the caller's marshdeck_state and in the two
- * buffers that the caller lends. Calls on different states and buffers may run at the same time.
+ * Link with libcapi.a, which `rt staticlib capi` writes for x86-64, and with -lm (it calls fmod). Nothing here
+ * allocates, keeps a pointer, or has a state of its own: all that is kept between two calls is in the caller's
+ * marshdeck_state and in the two buffers that the caller lends. Calls on different states and buffers may run
+ * at the same time.
  *
- * Whatever the numbers are, a call comes back: a bad one gets a number, counts of 0 and the state that it
- * was given, and its buffers keep their contents.
+ * Whatever the numbers are, a call comes back: a bad one gets a number, counts of 0 and the state that it was
+ * given, and its buffers keep their contents.
  *
- * What the caller has to promise, and nothing here can see, is said of pointers alone:
+ * What the caller has to promise, because nothing here can see it, is said of pointers alone:
  *   - a pointer with its length points to that many floats, aligned as floats are; those of a const pointer
- *     may be read, the others read and written, and all of them hold some value, NaN being one;
- *   - while a call runs nobody else writes what it was lent, or reads what it may write;
- *   - a buffer that is not const overlaps none of the others of the same call (input and coefficients may
- *     overlap each other);
- *   - where the length is 0 the pointer may be NULL. */
+ *     may be read, the others read and written;
+ *   - where the length is 0 the pointer may be NULL;
+ *   - a buffer that is not const overlaps no other buffer of the same call: mem, out and a coefs that is not
+ *     const stand apart from each other and from the rest. in and a const coefs may overlap each other;
+ *   - while a call runs, nobody else writes what it was lent, or reads what it may write. */
 #ifndef MARSHDECK_H
 #define MARSHDECK_H
 

@@ -1,3 +1,3 @@
 -- What each exported call's contract needs of the resampler's. Assumes nothing.
 pub mod Counts
-pub mod Held
+pub mod Calls

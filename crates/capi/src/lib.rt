@@ -1,5 +1,9 @@
 // The resampler for callers in C, and so in every language that calls C: `include/marshdeck.h` declares
-// what is exported here.
+// what is exported here, and says what C has to promise of its pointers.
+//
+// Each export is one function of ours through the flat twins of the crate `flat`, and its contract is that
+// function's, said of the state that the flat one stands for. None has a `requires`: a slice is a pointer and
+// a length in C, and what no state can hold gets refusal 7 before any slice is looked at.
 use flat::FlatAnswer;
 use flat::FlatSizes;
 use flat::FlatState;
@@ -17,6 +21,7 @@ ghost use Rattle.recording.specs.Totals.{closedTotalTold};
 ghost use Rattle.flat.specs.Flat.{flatTold, flatCall, flatTotal};
 ghost use Rattle.capi.specs.Contracts.{FlatSetsRate, FlatProcesses, FlatResets, neededSizes};
 
+// A new state.
 #[no_mangle]
 pub extern "C" fn marshdeck_new(target_hz: u32) -> FlatAnswer
     ensures { λ r. ⌜ r ≡ flatTold (newTold «target_hz») ⌝ }
@@ -24,6 +29,7 @@ pub extern "C" fn marshdeck_new(target_hz: u32) -> FlatAnswer
     flat::flat_answer(resampler::new(target_hz))
 }
 
+// Sets the source rate.
 #[no_mangle]
 pub extern "C" fn marshdeck_set_rate(
     state: FlatState,
@@ -33,12 +39,13 @@ pub extern "C" fn marshdeck_set_rate(
 ) -> FlatAnswer
     ensures { λ r. ⌜ FlatSetsRate state «source_hz» (now (mem .entry)) (now (coefs .entry)) r (now (mem .exit)) (now (coefs .exit)) ⌝ }
 {
-    if !flat::is_held(state) {
-        return flat::not_held(state);
+    if !flat::is_state(state) {
+        return flat::no_state(state);
     }
     flat::flat_answer(resampler::source_hz(flat::state_of(state), source_hz, mem, coefs))
 }
 
+// Resamples.
 #[no_mangle]
 pub extern "C" fn marshdeck_process(
     state: FlatState,
@@ -49,32 +56,35 @@ pub extern "C" fn marshdeck_process(
 ) -> FlatAnswer
     ensures { λ r. ⌜ FlatProcesses state (now (mem .entry)) (now (coefs .entry)) (now (input .entry)) (now (out .entry)) r (now (mem .exit)) (now (out .exit)) ⌝ }
 {
-    if !flat::is_held(state) {
-        return flat::not_held(state);
+    if !flat::is_state(state) {
+        return flat::no_state(state);
     }
     flat::flat_answer(resampler::process_float(flat::state_of(state), mem, coefs, input, out))
 }
 
+// Makes the state ready for another stream at the same rate.
 #[no_mangle]
 pub extern "C" fn marshdeck_reset(state: FlatState, mem: &mut [f32]) -> FlatAnswer
     ensures { λ r. ⌜ FlatResets state (now (mem .entry)) r (now (mem .exit)) ⌝ }
 {
-    if !flat::is_held(state) {
-        return flat::not_held(state);
+    if !flat::is_state(state) {
+        return flat::no_state(state);
     }
     flat::flat_answer(resampler::reset_mem(flat::state_of(state), mem))
 }
 
+// Leaves out the filter's run-in.
 #[no_mangle]
 pub extern "C" fn marshdeck_skip(state: FlatState) -> FlatAnswer
     ensures { λ r. ⌜ r ≡ flatCall state (λ s. skipTold house s) ⌝ }
 {
-    if !flat::is_held(state) {
-        return flat::not_held(state);
+    if !flat::is_state(state) {
+        return flat::no_state(state);
     }
     flat::flat_answer(resampler::skip_zeros(flat::state_of(state)))
 }
 
+// An f32 as a 16-bit sample.
 #[no_mangle]
 pub extern "C" fn marshdeck_to_i16(x: f32) -> i16
     ensures { λ r. ⌜ r ≡ toI16 x ⌝ }
@@ -82,6 +92,7 @@ pub extern "C" fn marshdeck_to_i16(x: f32) -> i16
     sixteen::to_i16(x)
 }
 
+// A 16-bit sample as an f32.
 #[no_mangle]
 pub extern "C" fn marshdeck_from_i16(sample: i16) -> f32
     ensures { λ r. ⌜ r ≡ fromI16 sample ⌝ }
@@ -89,6 +100,7 @@ pub extern "C" fn marshdeck_from_i16(sample: i16) -> f32
     sixteen::from_i16(sample)
 }
 
+// The sine that the coefficients are made with.
 #[no_mangle]
 pub extern "C" fn marshdeck_sine(a: f64) -> f64
     ensures { λ r. ⌜ r ≡ sineAt a ⌝ }
@@ -96,6 +108,7 @@ pub extern "C" fn marshdeck_sine(a: f64) -> f64
     sine::sine(a)
 }
 
+// How many outputs a closed recording has.
 #[no_mangle]
 pub extern "C" fn marshdeck_closed_total(m: u64, source_hz: u32, target_hz: u32) -> FlatTotal
     ensures { λ r. ⌜ r ≡ flatTotal (closedTotalTold «source_hz» «target_hz» m) ⌝ }
@@ -103,6 +116,8 @@ pub extern "C" fn marshdeck_closed_total(m: u64, source_hz: u32, target_hz: u32)
     flat::flat_total(recording::closed_total(Consumed(m), source_hz, target_hz))
 }
 
+// How long a history two rates need for a new state, and how many coefficients they have, so that a
+// caller need not work out a filter to lend enough.
 #[no_mangle]
 pub extern "C" fn marshdeck_needed(source_hz: u32, target_hz: u32) -> FlatSizes
     ensures { λ r. ⌜ r ≡ neededSizes «source_hz» «target_hz» ⌝ }

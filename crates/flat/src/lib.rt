@@ -1,7 +1,7 @@
 // The flat twins: what crosses to C and back. An enum does not cross, nor a struct that holds one, so a
-// kernel is its number there, and a refusal too.
+// kernel is its number there, and a refusal too. `proofs/Twins.antt` proves that nothing is lost on the way.
 //
-// A flat state may hold any numbers. The one that no state has a place for is a kernel above 2.
+// A flat state may hold any numbers. A kernel above 2 is the one thing in it that no state can hold.
 use judge::Refusal;
 use rates::Kernel;
 use recording::Total;
@@ -19,10 +19,11 @@ ghost use Rattle.flat.specs.Flat.{kernelAt, flatOf, stateOf, flatTold, n
 // The highest number that a kernel has.
 const LAST_KERNEL: u32 = 2;
 
-// What a count above `closed_total`'s limit gets: not a number of document 01, and far from those that
-// it has.
+// What more samples than `closed_total` takes get. Document 01 has no number for it, so this one is far from
+// those that it has.
 const TOO_MANY: u32 = 100;
 
+// A state, field by field; the kernel is 0 for none, 1 direct, 2 interpolated.
 #[repr(C)]
 pub struct FlatState {
     pub target: u32,
@@ -52,12 +53,14 @@ pub struct FlatAnswer {
     pub state: FlatState,
 }
 
+// A closed total: a refusal's number, 0 where there is a total.
 #[repr(C)]
 pub struct FlatTotal {
     pub refusal: u32,
     pub total: u64,
 }
 
+// How long the history has to be, and how many coefficients there are; a refusal's number, else 0.
 #[repr(C)]
 pub struct FlatSizes {
     pub refusal: u32,
@@ -65,13 +68,14 @@ pub struct FlatSizes {
     pub coefficients: u32,
 }
 
-// Whether there is a state with these numbers.
-pub fn is_held(flat: FlatState) -> bool
+// Whether some state has these numbers.
+pub fn is_state(flat: FlatState) -> bool
     ensures { λ r. ⌜ r ≡ leb (flat .kernel) 2 ⌝ }
 {
     flat.kernel <= LAST_KERNEL
 }
 
+// The kernel with this number; one above 2 is not asked for.
 fn kernel_at(number: u32) -> Kernel
     ensures { λ r. ⌜ r ≡ kernelAt number ⌝ }
 {
@@ -84,6 +88,7 @@ fn kernel_at(number: u32) -> Kernel
     Kernel::Interpolated
 }
 
+// The number of a kernel.
 fn kernel_number(kernel: Kernel) -> u32
     ensures { λ r. ⌜ r ≡ kernelNumber kernel ⌝ }
 {
@@ -143,8 +148,8 @@ fn flat_of(state: ResamplerState) -> FlatState
     }
 }
 
-// The answer to a flat state that is none: refusal 7, and the numbers as they were given.
-pub fn not_held(flat: FlatState) -> FlatAnswer
+// The answer where no state has these numbers: refusal 7, and the numbers as they were given.
+pub fn no_state(flat: FlatState) -> FlatAnswer
     ensures { λ r. ⌜ r ≡ noState flat ⌝ }
 {
     FlatAnswer {
@@ -178,6 +183,7 @@ pub fn flat_answer(answer: Answer) -> FlatAnswer
     }
 }
 
+// What a total tells.
 pub fn flat_total(total: Total) -> FlatTotal
     ensures { λ r. ⌜ r ≡ flatTotal (totalTold total) ⌝ }
 {

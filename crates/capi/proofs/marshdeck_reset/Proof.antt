@@ -6,7 +6,7 @@ use lib.Dec.{leb}
 use denote.Ref.{now}
 use borrow.Author.Needs.{needs}
 use Rattle.capi.proofs.Counts.{reset-within}
-use Rattle.capi.proofs.Held.{no-reset, resets}
+use Rattle.capi.proofs.Calls.{no-reset, resets}
 use Rattle.capi.proofs.marshdeck_reset.Statement.{statement}
 use Rattle.capi.proofs.marshdeck_reset.Tie as tie
 
@@ -19,18 +19,18 @@ start c = c .before .before .before
 
 -- a state has the numbers
 yes : (c : tie.Else1) → leb (start c .args .state .kernel) 2 ≡ true
-yes c = sym (c .before .is-held .ensures) ∙ not-false _ (c .if1 .left)
+yes c = sym (c .before .is-state .ensures) ∙ not-false _ (c .if1 .left)
 
-is-held-requires : tie.Need-is-held-requires
-is-held-requires c κs = search needs
+is-state-requires : tie.Need-is-state-requires
+is-state-requires c κs = search needs
 
-not-held-requires : tie.Need-not-held-requires
-not-held-requires c κs = search needs
+no-state-requires : tie.Need-no-state-requires
+no-state-requires c κs = search needs
 
 returns : tie.Need-returns
 returns c =
     let a = c .before .before .before .before .args in
-    no-reset (a .state) (sym (c .before .before .is-held .ensures) ∙ not-true _ (c .before .if1 .taken)) (c .not-held .ensures) (now (a .mem))
+    no-reset (a .state) (sym (c .before .before .is-state .ensures) ∙ not-true _ (c .before .if1 .taken)) (c .no-state .ensures) (now (a .mem))
 
 state-of-requires : tie.Need-state-of-requires
 state-of-requires c κs = search needs
@@ -56,8 +56,8 @@ pub marshdeck-reset-spec : {M : Type 1} → statement M
 marshdeck-reset-spec =
     tie.close
     (tie.spec
-    is-held-requires
-    not-held-requires
+    is-state-requires
+    no-state-requires
     returns
     state-of-requires
     reset-mem-requires

@@ -5,7 +5,7 @@ use borrow.Author.Tests.{not-true, not-false}
 use lib.Dec.{leb}
 use borrow.Author.Needs.{needs}
 use Rattle.capi.proofs.Counts.{skip-within}
-use Rattle.capi.proofs.Held.{none-called, called}
+use Rattle.capi.proofs.Calls.{none-called, called}
 use Rattle.quality.specs.House.{house}
 use Rattle.state.specs.declared.ResamplerState.{ResamplerState}
 use Rattle.resampler.specs.Entries.{skipTold}
@@ -21,18 +21,18 @@ start c = c .before .before
 
 -- a state has the numbers
 yes : (c : tie.Else1) → leb (start c .args .state .kernel) 2 ≡ true
-yes c = sym (c .before .is-held .ensures) ∙ not-false _ (c .if1 .left)
+yes c = sym (c .before .is-state .ensures) ∙ not-false _ (c .if1 .left)
 
-is-held-requires : tie.Need-is-held-requires
-is-held-requires c κs = search needs
+is-state-requires : tie.Need-is-state-requires
+is-state-requires c κs = search needs
 
-not-held-requires : tie.Need-not-held-requires
-not-held-requires c κs = search needs
+no-state-requires : tie.Need-no-state-requires
+no-state-requires c κs = search needs
 
 returns : tie.Need-returns
 returns c =
     let a = c .before .before .before .args in
-    none-called (a .state) (sym (c .before .before .is-held .ensures) ∙ not-true _ (c .before .if1 .taken)) (c .not-held .ensures) (λ (s : ResamplerState). skipTold house s)
+    none-called (a .state) (sym (c .before .before .is-state .ensures) ∙ not-true _ (c .before .if1 .taken)) (c .no-state .ensures) (λ (s : ResamplerState). skipTold house s)
 
 state-of-requires : tie.Need-state-of-requires
 state-of-requires c κs = search needs
@@ -53,8 +53,8 @@ pub marshdeck-skip-spec : {M : Type 1} → statement M
 marshdeck-skip-spec =
     tie.close
     (tie.spec
-    is-held-requires
-    not-held-requires
+    is-state-requires
+    no-state-requires
     returns
     state-of-requires
     skip-zeros-requires

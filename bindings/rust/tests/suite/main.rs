@@ -1,0 +1,22 @@
+//! The crate held to answers that the Rust made, and to what the written rules say.
+
+mod header;
+mod recording;
+mod refusals;
+mod replay;
+#[path = "../../../../oracle/src/segments.rs"]
+mod segments;
+mod truth;
+mod values;
+
+/// `count` samples between -1 and 1, the same ones for the same seed.
+fn noise(seed: u32, count: usize) -> Vec<f32> {
+    let mut samples = Vec::new();
+    segments::add(&format!("r:{seed}*{count}"), count, &mut samples).expect("a segment");
+    samples
+}
+
+/// The bits of samples: they tell -0.0 from 0.0, and a NaN is equal to itself.
+fn bits(samples: &[f32]) -> Vec<u32> {
+    samples.iter().map(|x| x.to_bits()).collect()
+}

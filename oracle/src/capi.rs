@@ -1,0 +1,104 @@
+// Ours, as include/marshdeck.h declares it to C.
+
+#[repr(C)]
+#[derive(Clone, Copy, Default)]
+pub struct State {
+    pub target: u32,
+    pub source: u32,
+    pub num: u32,
+    pub den: u32,
+    pub filt_len: u32,
+    pub mem_alloc_size: u32,
+    pub buffer_size: u32,
+    pub int_advance: u32,
+    pub frac_advance: u32,
+    pub cutoff: f32,
+    pub oversample: u32,
+    pub started: u32,
+    pub kernel: u32,
+    pub last_sample: u32,
+    pub samp_frac_num: u32,
+    pub magic_samples: u32,
+}
+
+#[repr(C)]
+pub struct Answer {
+    pub refusal: u32,
+    pub consumed: u32,
+    pub written: u32,
+    pub state: State,
+}
+
+#[repr(C)]
+pub struct Sizes {
+    pub refusal: u32,
+    pub history: u32,
+    pub coefficients: u32,
+}
+
+// A call without a pointer is safe whatever it is given.
+unsafe extern "C" {
+    pub safe fn marshdeck_new(target_hz: u32) -> Answer;
+    pub safe fn marshdeck_needed(source_hz: u32, target_hz: u32) -> Sizes;
+    pub safe fn marshdeck_to_i16(x: f32) -> i16;
+    pub safe fn marshdeck_from_i16(sample: i16) -> f32;
+    pub safe fn marshdeck_sine(angle: f64) -> f64;
+
+    fn marshdeck_set_rate(
+        state: State,
+        source_hz: u32,
+        mem: *mut f32,
+        mem_len: usize,
+        coefs: *mut f32,
+        coefs_len: usize,
+    ) -> Answer;
+
+    fn marshdeck_process(
+        state: State,
+        mem: *mut f32,
+        mem_len: usize,
+        coefs: *const f32,
+        coefs_len: usize,
+        input: *const f32,
+        in_len: usize,
+        out: *mut f32,
+        out_len: usize,
+    ) -> Answer;
+}
+
+pub fn set_rate(state: State, source_hz: u32, mem: &mut [f32], coefs: &mut [f32]) -> Answer {
+    // SAFETY: each pointer comes with the length of its slice, and slices that are lent for writing overlap no other.
+    unsafe {
+        marshdeck_set_rate(
+            state,
+            source_hz,
+            mem.as_mut_ptr(),
+            mem.len(),
+            coefs.as_mut_ptr(),
+            coefs.len(),
+        )
+    }
+}
+
+pub fn process(
+    state: State,
+    mem: &mut [f32],
+    coefs: &[f32],
+    input: &[f32],
+    out: &mut [f32],
+) -> Answer {
+    // SAFETY: as above; what is lent const is only read.
+    unsafe {
+        marshdeck_process(
+            state,
+            mem.as_mut_ptr(),
+            mem.len(),
+            coefs.as_ptr(),
+            coefs.len(),
+            input.as_ptr(),
+            input.len(),
+            out.as_mut_ptr(),
+            out.len(),
+        )
+    }
+}
