@@ -14,8 +14,6 @@ pub const STATE: usize = 3;
 // The one number that is given and printed as bits.
 pub const CUTOFF: usize = 12;
 
-pub const KERNEL: usize = 15;
-
 pub const SUMS: usize = 19;
 
 pub const HISTORY: usize = 22;

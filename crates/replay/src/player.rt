@@ -1,14 +1,12 @@
-// Plays an order: one call of the resampler, or a change to what is lent to it.
+// Plays an order: one call of the resampler, as a program in C makes it, or a change to what is lent to it.
 //
-// The numbers of the state are kept one by one, so that a script can give it any numbers at all. A
-// kernel that is none of the three has no state to be called with: the player answers for it what the
-// resampler answers for numbers that don't belong together. What is lent are the first entries of the
-// player's own arrays, as many as the kept lengths say.
+// The numbers of the state are kept one by one, so that a script can give it any numbers at all, also a
+// kernel that there is none of. What is lent are the first entries of the player's own arrays, as many as
+// the kept lengths say.
 use crate::orders::Order;
 use crate::places::COEFFICIENTS;
 use crate::places::CONSUMED;
 use crate::places::HISTORY;
-use crate::places::KERNEL;
 use crate::places::LEND;
 use crate::places::NEW;
 use crate::places::PROCESS;
@@ -19,10 +17,8 @@ use crate::places::ROOM;
 use crate::places::SKIP;
 use crate::places::WRITTEN;
 use crate::segments::least;
-use judge::Refusal;
-use rates::Kernel;
-use resampler::Answer;
-use state::ResamplerState;
+use flat::FlatAnswer;
+use flat::FlatState;
 
 // What an output entry holds before a call, so that one that is left alone shows.
 const UNTOUCHED: u32 = 0x4b1d_f00d;
@@ -47,22 +43,14 @@ pub fn change(
     lend(order, numbers, history, coefs)
 }
 
-// Nothing is refused yet, unless it is a call for which there is no state.
+// Nothing is refused yet.
 fn begun(order: Order, kept: [u32; 25]) -> [u32; 25] {
     let mut numbers = kept;
-    numbers[REFUSAL] = refusal(order.name, kept[KERNEL]);
+    numbers[REFUSAL] = 0;
     numbers[CONSUMED] = 0;
     numbers[WRITTEN] = 0;
     numbers[ROOM] = room(order.name, order.first);
     numbers
-}
-
-fn refusal(name: usize, kernel: u32) -> u32 {
-    let takes_state = (name == RATE) | (name == PROCESS) | (name == RESET) | (name == SKIP);
-    if takes_state & (kernel > 2) {
-        return Refusal::State.number();
-    }
-    0
 }
 
 fn room(name: usize, first: u32) -> u32 {
@@ -123,9 +111,6 @@ pub fn call(
     output: &mut [f32],
 ) -> [u32; 25] {
     fill(output, 0, UNTOUCHED);
-    if kept[REFUSAL] > 0 {
-        return kept;
-    }
     if order.name == PROCESS {
         return process(order.count, kept, history, coefs, input, output);
     }
@@ -151,10 +136,10 @@ fn call_unheard(
 // The calls that take no slice.
 fn call_alone(name: usize, target: u32, kept: [u32; 25]) -> [u32; 25] {
     if name == NEW {
-        return told(resampler::new(target), kept);
+        return told(capi::marshdeck_new(target), kept);
     }
     if name == SKIP {
-        return told(resampler::skip_zeros(state_of(kept)), kept);
+        return told(capi::marshdeck_skip(state_in(kept)), kept);
     }
     kept
 }
@@ -172,8 +157,8 @@ fn process(
     let n = least(count as usize, input.len());
     let room = least(kept[ROOM] as usize, output.len());
     told(
-        resampler::process_float(
-            state_of(kept),
+        capi::marshdeck_process(
+            state_in(kept),
             &mut history[0..h],
             &coefs[0..c],
             &input[0..n],
@@ -187,7 +172,7 @@ fn rate(source: u32, kept: [u32; 25], history: &mut [f32], coefs: &mut [f32]) ->
     let h = least(kept[HISTORY] as usize, history.len());
     let c = least(kept[COEFFICIENTS] as usize, coefs.len());
     told(
-        resampler::source_hz(state_of(kept), source, &mut history[0..h], &mut coefs[0..c]),
+        capi::marshdeck_set_rate(state_in(kept), source, &mut history[0..h], &mut coefs[0..c]),
         kept,
     )
 }
@@ -195,38 +180,18 @@ fn rate(source: u32, kept: [u32; 25], history: &mut [f32], coefs: &mut [f32]) ->
 fn reset(kept: [u32; 25], history: &mut [f32]) -> [u32; 25] {
     let h = least(kept[HISTORY] as usize, history.len());
     told(
-        resampler::reset_mem(state_of(kept), &mut history[0..h]),
+        capi::marshdeck_reset(state_in(kept), &mut history[0..h]),
         kept,
     )
 }
 
 // Keeps what a call answered, whether it was accepted or not.
-fn told(answer: Answer, kept: [u32; 25]) -> [u32; 25] {
-    match answer {
-        Answer::Refused(refusal, state) => numbers_of(state, refusal.number(), 0, 0, kept),
-        Answer::Accepted(state, consumed, written) => numbers_of(
-            state,
-            0,
-            consumed.0,
-            written.0,
-            kept,
-        ),
-    }
-}
-
-// No call consumes or writes 2^32 samples.
-fn numbers_of(
-    state: ResamplerState,
-    refusal: u32,
-    consumed: u64,
-    written: u64,
-    kept: [u32; 25],
-) -> [u32; 25] {
-    let kernel = state.kernel;
+fn told(answer: FlatAnswer, kept: [u32; 25]) -> [u32; 25] {
+    let state = answer.state;
     [
-        refusal,
-        (consumed % 4294967296) as u32,
-        (written % 4294967296) as u32,
+        answer.refusal,
+        answer.consumed,
+        answer.written,
         state.target,
         state.source,
         state.num,
@@ -239,7 +204,7 @@ fn numbers_of(
         bits::bits_of(state.cutoff),
         state.oversample,
         state.started,
-        number_of(kernel),
+        state.kernel,
         state.last_sample,
         state.samp_frac_num,
         state.magic_samples,
@@ -252,18 +217,9 @@ fn numbers_of(
     ]
 }
 
-fn number_of(kernel: Kernel) -> u32 {
-    match kernel {
-        Kernel::Unset => 0,
-        Kernel::Direct => 1,
-        Kernel::Interpolated => 2,
-    }
-}
-
-// The state of the numbers that are kept. The kernel has to be one of the three.
-fn state_of(kept: [u32; 25]) -> ResamplerState {
-    let kernel = kernel_of(kept[15]);
-    ResamplerState {
+// The state that is kept.
+fn state_in(kept: [u32; 25]) -> FlatState {
+    FlatState {
         target: kept[3],
         source: kept[4],
         num: kept[5],
@@ -276,17 +232,9 @@ fn state_of(kept: [u32; 25]) -> ResamplerState {
         cutoff: bits::float_of(kept[12]),
         oversample: kept[13],
         started: kept[14],
-        kernel,
+        kernel: kept[15],
         last_sample: kept[16],
         samp_frac_num: kept[17],
         magic_samples: kept[18],
-    }
-}
-
-fn kernel_of(number: u32) -> Kernel {
-    match number {
-        1 => Kernel::Direct,
-        2 => Kernel::Interpolated,
-        _ => Kernel::Unset,
     }
 }
