@@ -1,9 +1,8 @@
 -- The two ways of each call on a flat state: no state has its numbers, or the resampler was called with the one that has. Assumes nothing.
 use mathlib.Core.Path.{_≡_, ap, _∙_}
-use mathlib.Core.Bool.{Bool, true, false}
+use mathlib.Core.Bool.{true, false}
 use mathlib.Core.List.{List}
 use Prim.Native.Nat.{ℕ}
-use lib.Dec.{leb}
 use lib.Ieee.{Float}
 use Rattle.quality.specs.House.{house}
 use Rattle.state.specs.declared.ResamplerState.{ResamplerState}
@@ -11,13 +10,13 @@ use Rattle.resampler.specs.Answers.{Told, told}
 use Rattle.resampler.specs.Entries.{rateTold, rateHistory, rateCoefficients, processTold, processHistory, processOutput, resetTold, resetHistory}
 use Rattle.resampler.specs.Contracts.{SetsRate, Processes, Resets}
 use Rattle.resampler.specs.declared.Answer.{Answer}
-use Rattle.flat.specs.Flat.{stateOf, flatTold, noState, flatCall}
+use Rattle.flat.specs.Flat.{stateOf, isState, flatTold, noState, flatCall}
 use Rattle.flat.specs.declared.FlatState.{FlatState}
 use Rattle.flat.specs.declared.FlatAnswer.{FlatAnswer}
 use Rattle.capi.specs.Contracts.{FlatSetsRate, FlatProcesses, FlatResets}
 
 -- ---- no state has these numbers
-module _ (f : FlatState) (no : leb (f .kernel) 2 ≡ false) {answer : FlatAnswer} (a : answer ≡ noState f) where
+module _ (f : FlatState) (no : isState f ≡ false) {answer : FlatAnswer} (a : answer ≡ noState f) where
   pub none-called : (call : ResamplerState → Told) → answer ≡ flatCall f call
   none-called call = rw no a
 
@@ -31,7 +30,7 @@ module _ (f : FlatState) (no : leb (f .kernel) 2 ≡ false) {answer : FlatAnswer
   no-reset mem = record { tells = rw no a; history = rw no }
 
 -- ---- a state has them, and the resampler was called with it
-module _ (f : FlatState) (yes : leb (f .kernel) 2 ≡ true) {s : ResamplerState} (is : s ≡ stateOf f) (made : Answer) {answer : FlatAnswer}
+module _ (f : FlatState) (yes : isState f ≡ true) {s : ResamplerState} (is : s ≡ stateOf f) (made : Answer) {answer : FlatAnswer}
     (a : answer ≡ flatTold (told made)) where
   pub called : (call : ResamplerState → Told) → told made ≡ call s → answer ≡ flatCall f call
   called call t = rw yes (a ∙ ap flatTold (t ∙ ap call is))

@@ -1,6 +1,6 @@
 -- The flat twins: a state, what a call tells of it and a closed total, in numbers that cross to C. Assumes nothing.
 use Prim.Native.Nat.{ℕ}
-use mathlib.Core.Bool.{cond}
+use mathlib.Core.Bool.{Bool, cond}
 use lib.Dec.{eqb, leb}
 use Rattle.rates.specs.declared.Kernel.{Kernel}
 use Rattle.rates.specs.declared.Kernel.the-variants.{Unset, Direct, Interpolated}
@@ -64,9 +64,13 @@ stateOf f =
       «magic_samples» = f .«magic_samples»;
     }
 
--- what is said of the state that has these numbers, or, where the kernel is above 2 and no state has them, `otherwise`
+-- whether some state has these numbers: no kernel has a number above 2
+abbrev pub isState : FlatState → Bool
+isState f = leb (f .kernel) 2
+
+-- what is said of the state that has these numbers; where none has them, `otherwise`
 abbrev pub ofState : {A : Type 0} → FlatState → A → (ResamplerState → A) → A
-ofState f otherwise said = cond (leb (f .kernel) 2) (said (stateOf f)) otherwise
+ofState f otherwise said = cond (isState f) (said (stateOf f)) otherwise
 
 -- ---- an answer
 

@@ -9,12 +9,11 @@ use resampler::Answer;
 use state::ResamplerState;
 ghost use mathlib.Core.Path.{_≡_};
 ghost use Prim.Native.Nat.{_≤_};
-ghost use lib.Dec.{leb};
 ghost use Rattle.state.specs.Belongs.{kernelNumber};
 ghost use Rattle.judge.specs.Refusals.{maxCall};
 ghost use Rattle.resampler.specs.Answers.{told};
 ghost use Rattle.recording.specs.Totals.{totalTold};
-ghost use Rattle.flat.specs.Flat.{kernelAt, flatOf, stateOf, flatTold, noState, flatTotal};
+ghost use Rattle.flat.specs.Flat.{kernelAt, flatOf, stateOf, isState, flatTold, noState, flatTotal};
 
 // The highest number that a kernel has.
 const LAST_KERNEL: u32 = 2;
@@ -70,7 +69,7 @@ pub struct FlatSizes {
 
 // Whether some state has these numbers.
 pub fn is_state(flat: FlatState) -> bool
-    ensures { λ r. ⌜ r ≡ leb (flat .kernel) 2 ⌝ }
+    ensures { λ r. ⌜ r ≡ isState flat ⌝ }
 {
     flat.kernel <= LAST_KERNEL
 }

@@ -2,9 +2,9 @@
 use mathlib.Core.Path.{_≡_, sym, _∙_}
 use mathlib.Core.Bool.{true}
 use borrow.Author.Tests.{not-true, not-false}
-use lib.Dec.{leb}
 use denote.Ref.{now}
 use borrow.Author.Needs.{needs}
+use Rattle.flat.specs.Flat.{isState}
 use Rattle.capi.proofs.Counts.{rate-within}
 use Rattle.capi.proofs.Calls.{no-rate, sets-rate}
 use Rattle.capi.proofs.marshdeck_set_rate.Statement.{statement}
@@ -18,7 +18,7 @@ abbrev start : tie.Else1 → tie.Start
 start c = c .before .before .before .before
 
 -- a state has the numbers
-yes : (c : tie.Else1) → leb (start c .args .state .kernel) 2 ≡ true
+yes : (c : tie.Else1) → isState (start c .args .state) ≡ true
 yes c = sym (c .before .is-state .ensures) ∙ not-false _ (c .if1 .left)
 
 is-state-requires : tie.Need-is-state-requires

@@ -2,13 +2,13 @@
 use mathlib.Core.Path.{_≡_, sym, _∙_}
 use mathlib.Core.Bool.{true}
 use borrow.Author.Tests.{not-true, not-false}
-use lib.Dec.{leb}
 use borrow.Author.Needs.{needs}
-use Rattle.capi.proofs.Counts.{skip-within}
-use Rattle.capi.proofs.Calls.{none-called, called}
 use Rattle.quality.specs.House.{house}
 use Rattle.state.specs.declared.ResamplerState.{ResamplerState}
 use Rattle.resampler.specs.Entries.{skipTold}
+use Rattle.flat.specs.Flat.{isState}
+use Rattle.capi.proofs.Counts.{skip-within}
+use Rattle.capi.proofs.Calls.{none-called, called}
 use Rattle.capi.proofs.marshdeck_skip.Statement.{statement}
 use Rattle.capi.proofs.marshdeck_skip.Tie as tie
 
@@ -20,7 +20,7 @@ abbrev start : tie.Else1 → tie.Start
 start c = c .before .before
 
 -- a state has the numbers
-yes : (c : tie.Else1) → leb (start c .args .state .kernel) 2 ≡ true
+yes : (c : tie.Else1) → isState (start c .args .state) ≡ true
 yes c = sym (c .before .is-state .ensures) ∙ not-false _ (c .if1 .left)
 
 is-state-requires : tie.Need-is-state-requires
