@@ -1,7 +1,8 @@
 // Ours, as include/marshdeck.h declares it to C.
 
+// marshdeck_state.
 #[repr(C)]
-#[derive(Clone, Copy, Default)]
+#[derive(Clone, Copy)]
 pub struct State {
     pub target: u32,
     pub source: u32,
@@ -21,14 +22,23 @@ pub struct State {
     pub magic_samples: u32,
 }
 
+// marshdeck_answer.
 #[repr(C)]
-pub struct Answer {
+pub struct Answered {
     pub refusal: u32,
     pub consumed: u32,
     pub written: u32,
     pub state: State,
 }
 
+// marshdeck_total.
+#[repr(C)]
+pub struct Total {
+    pub refusal: u32,
+    pub total: u64,
+}
+
+// marshdeck_sizes.
 #[repr(C)]
 pub struct Sizes {
     pub refusal: u32,
@@ -38,22 +48,18 @@ pub struct Sizes {
 
 // A call without a pointer is safe whatever it is given.
 unsafe extern "C" {
-    pub safe fn marshdeck_new(target_hz: u32) -> Answer;
-    pub safe fn marshdeck_needed(source_hz: u32, target_hz: u32) -> Sizes;
-    pub safe fn marshdeck_to_i16(x: f32) -> i16;
-    pub safe fn marshdeck_from_i16(sample: i16) -> f32;
-    pub safe fn marshdeck_sine(angle: f64) -> f64;
+    pub safe fn marshdeck_new(target_hz: u32) -> Answered;
 
-    fn marshdeck_set_rate(
+    pub fn marshdeck_set_rate(
         state: State,
         source_hz: u32,
         mem: *mut f32,
         mem_len: usize,
         coefs: *mut f32,
         coefs_len: usize,
-    ) -> Answer;
+    ) -> Answered;
 
-    fn marshdeck_process(
+    pub fn marshdeck_process(
         state: State,
         mem: *mut f32,
         mem_len: usize,
@@ -63,42 +69,19 @@ unsafe extern "C" {
         in_len: usize,
         out: *mut f32,
         out_len: usize,
-    ) -> Answer;
-}
+    ) -> Answered;
 
-pub fn set_rate(state: State, source_hz: u32, mem: &mut [f32], coefs: &mut [f32]) -> Answer {
-    // SAFETY: each pointer comes with the length of its slice, and slices that are lent for writing overlap no other.
-    unsafe {
-        marshdeck_set_rate(
-            state,
-            source_hz,
-            mem.as_mut_ptr(),
-            mem.len(),
-            coefs.as_mut_ptr(),
-            coefs.len(),
-        )
-    }
-}
+    pub fn marshdeck_reset(state: State, mem: *mut f32, mem_len: usize) -> Answered;
 
-pub fn process(
-    state: State,
-    mem: &mut [f32],
-    coefs: &[f32],
-    input: &[f32],
-    out: &mut [f32],
-) -> Answer {
-    // SAFETY: as above; what is lent const is only read.
-    unsafe {
-        marshdeck_process(
-            state,
-            mem.as_mut_ptr(),
-            mem.len(),
-            coefs.as_ptr(),
-            coefs.len(),
-            input.as_ptr(),
-            input.len(),
-            out.as_mut_ptr(),
-            out.len(),
-        )
-    }
+    pub safe fn marshdeck_skip(state: State) -> Answered;
+
+    pub safe fn marshdeck_to_i16(x: f32) -> i16;
+
+    pub safe fn marshdeck_from_i16(sample: i16) -> f32;
+
+    pub safe fn marshdeck_sine(angle: f64) -> f64;
+
+    pub safe fn marshdeck_closed_total(m: u64, source_hz: u32, target_hz: u32) -> Total;
+
+    pub safe fn marshdeck_needed(source_hz: u32, target_hz: u32) -> Sizes;
 }

@@ -3,7 +3,8 @@
 
 use std::io::{self, Read, Write};
 
-use crate::rules::{in_limits, rated, Lent, RATE};
+use crate::lent::{Entries, Lent};
+use crate::rules::{in_limits, rated, Rules, RATE};
 use crate::sixteen::{from_i16, to_i16};
 
 const HEADER: usize = 13;
@@ -28,13 +29,10 @@ fn rates(file: &[u8]) -> Result<(u32, u32), u32> {
 // All outputs of the samples and the n/2 zeros after them. The calls are cut at 1,000 samples with room for 700 outputs,
 // so that samples are offered again and rooms fill up on the way.
 fn resampled(samples: &[f32], source: u32, target: u32) -> Vec<f32> {
-    let mut lent = Lent {
-        history: vec![0.0; 7_839],
-        coefficients: vec![0.0; 7_688],
-        ..Lent::default()
-    };
-    assert_eq!(lent.new_state(target).0, 0);
-    assert_eq!(lent.set_rate(source).0, 0);
+    let rules = Rules::default();
+    let mut lent = Lent::longest();
+    assert_eq!(rules.new_state(&mut lent, target).0, 0);
+    assert_eq!(rules.set_rate(&mut lent, source).0, 0);
     let mut stream = samples.to_vec();
     if !samples.is_empty() {
         stream.resize(samples.len() + rated(source, target).n as usize / 2, 0.0);
@@ -44,7 +42,7 @@ fn resampled(samples: &[f32], source: u32, target: u32) -> Vec<f32> {
     let mut read = 0;
     while read < stream.len() {
         let end = stream.len().min(read + 1_000);
-        let (refusal, consumed, written) = lent.process(&stream[read..end], &mut out);
+        let (refusal, consumed, written) = rules.process(&mut lent, &stream[read..end], &mut out);
         assert_eq!(refusal, 0);
         read += consumed as usize;
         all.extend_from_slice(&out[..written as usize]);

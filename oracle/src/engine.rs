@@ -46,73 +46,28 @@ fn kernel_of(num: u32, den: u32) -> ResamplerBasicFunc {
     state.resampler_ptr
 }
 
-fn pointer(kernel: u32) -> ResamplerBasicFunc {
-    match kernel {
-        DIRECT => kernel_of(1, 1),
-        INTERPOLATED => kernel_of(16, 17),
-        _ => None,
+// The Rust, with the kernels that its functions choose between. They are taken once: each costs a table of coefficients.
+pub struct Engine {
+    direct: ResamplerBasicFunc,
+    interpolated: ResamplerBasicFunc,
+}
+
+impl Default for Engine {
+    fn default() -> Self {
+        Self {
+            direct: kernel_of(1, 1),
+            interpolated: kernel_of(16, 17),
+        }
     }
 }
 
-fn kernel_number(chosen: ResamplerBasicFunc) -> u32 {
-    let address = |f: ResamplerBasicFunc| f.map(|f| f as usize);
-    [DIRECT, INTERPOLATED]
-        .into_iter()
-        .find(|&k| address(pointer(k)) == address(chosen))
-        .unwrap_or(NO_KERNEL)
-}
-
-// A state of the Rust with these numbers, this history and these coefficients.
-fn enter(numbers: &Numbers, mem: &[f32], table: &[f32]) -> ResamplerState {
-    ResamplerState {
-        filt_len: numbers.n,
-        mem_alloc_size: numbers.alloc,
-        buffer_size: numbers.buffer,
-        int_advance: numbers.int,
-        frac_advance: numbers.frac,
-        cutoff: f32::from_bits(numbers.cutoff),
-        oversample: numbers.oversample,
-        started: numbers.started,
-        mem: mem.to_vec(),
-        sinc_table: table.to_vec(),
-        sinc_table_length: table.len() as u32,
-        resampler_ptr: pointer(numbers.kernel),
-        last_sample: numbers.position,
-        samp_frac_num: numbers.phase,
-        magic_samples: numbers.magic,
-    }
-}
-
-// The numbers that speex.rs keeps, read back. Rates and ratio are not among them.
-fn leave(state: &ResamplerState, numbers: &mut Numbers) {
-    numbers.n = state.filt_len;
-    numbers.alloc = state.mem_alloc_size;
-    numbers.buffer = state.buffer_size;
-    numbers.int = state.int_advance;
-    numbers.frac = state.frac_advance;
-    numbers.cutoff = state.cutoff.to_bits();
-    numbers.oversample = state.oversample;
-    numbers.started = state.started;
-    numbers.kernel = kernel_number(state.resampler_ptr);
-    numbers.position = state.last_sample;
-    numbers.phase = state.samp_frac_num;
-    numbers.magic = state.magic_samples;
-}
-
-// `Resampler::new`: no source rate, ratio 0/1, the default state.
-pub fn new(target: u32) -> Numbers {
-    let mut numbers = Numbers {
-        target,
-        den: 1,
-        ..Numbers::default()
-    };
-    leave(&ResamplerState::default(), &mut numbers);
-    numbers
+fn address(kernel: ResamplerBasicFunc) -> Option<usize> {
+    kernel.map(|f| f as usize)
 }
 
 // The phase as `source_hz` carries it over. Where `_muldiv` would panic it is document 01's exact quotient.
 fn carried(phase: u32, den: u32, old_den: u32) -> u32 {
-    let moved = if phase > u32::MAX / den {
+    let moved = if muldiv_panics(phase, den) {
         (u64::from(phase) * u64::from(den) / u64::from(old_den)) as u32
     } else {
         speex::_muldiv(phase, den, old_den)
@@ -120,53 +75,124 @@ fn carried(phase: u32, den: u32, old_den: u32) -> u32 {
     moved.min(den - 1)
 }
 
-// `source_hz` for a rate that is not the one already set. `mem` holds the old alloc entries. Answers the history of the
-// new alloc entries, and the coefficients: a table of exactly the length needed, since none was there before.
-pub fn source_hz(numbers: &mut Numbers, hz: u32, mem: &[f32]) -> (Vec<f32>, Vec<f32>) {
-    let (num, den) = simplify(hz, numbers.target);
-    let mut state = enter(numbers, mem, &[]);
-    state.samp_frac_num = carried(numbers.phase, den, numbers.den);
-    state.update_filter(num, den);
-    leave(&state, numbers);
-    numbers.source = hz;
-    numbers.num = num;
-    numbers.den = den;
-    (state.mem, state.sinc_table)
-}
-
-// `process_float`. Answers how many samples were consumed and how many outputs written.
-pub fn process_float(
-    numbers: &mut Numbers,
-    mem: &mut [f32],
-    table: &[f32],
-    input: &[f32],
-    out: &mut [f32],
-) -> (u32, u32) {
-    let mut state = enter(numbers, mem, table);
-    let mut consumed = input.len() as u32;
-    let mut written = out.len() as u32;
-    state.process_float(input, &mut consumed, out, &mut written, numbers.den);
-    leave(&state, numbers);
-    mem.copy_from_slice(&state.mem);
-    (consumed, written)
-}
-
-// `reset_mem`.
-pub fn reset_mem(numbers: &mut Numbers, mem: &mut [f32]) {
-    let mut state = enter(numbers, mem, &[]);
-    state.reset_mem();
-    leave(&state, numbers);
-    mem.copy_from_slice(&state.mem);
-}
-
-// `skip_zeros`.
-pub fn skip_zeros(numbers: &mut Numbers) {
-    let mut state = enter(numbers, &[], &[]);
-    state.skip_zeros();
-    leave(&state, numbers);
+// Whether the Rust panics where it carries this phase over to this den.
+pub fn muldiv_panics(phase: u32, den: u32) -> bool {
+    phase > u32::MAX / den
 }
 
 // The sine that math.rs names.
 pub fn sine(a: f64) -> f64 {
     Libm::sin(a)
+}
+
+impl Engine {
+    fn pointer(&self, kernel: u32) -> ResamplerBasicFunc {
+        match kernel {
+            DIRECT => self.direct,
+            INTERPOLATED => self.interpolated,
+            _ => None,
+        }
+    }
+
+    fn kernel_number(&self, chosen: ResamplerBasicFunc) -> u32 {
+        [DIRECT, INTERPOLATED]
+            .into_iter()
+            .find(|&k| address(self.pointer(k)) == address(chosen))
+            .unwrap_or(NO_KERNEL)
+    }
+
+    // A state of the Rust with these numbers, this history and these coefficients.
+    fn enter(&self, numbers: &Numbers, mem: &[f32], table: &[f32]) -> ResamplerState {
+        ResamplerState {
+            filt_len: numbers.n,
+            mem_alloc_size: numbers.alloc,
+            buffer_size: numbers.buffer,
+            int_advance: numbers.int,
+            frac_advance: numbers.frac,
+            cutoff: f32::from_bits(numbers.cutoff),
+            oversample: numbers.oversample,
+            started: numbers.started,
+            mem: mem.to_vec(),
+            sinc_table: table.to_vec(),
+            sinc_table_length: table.len() as u32,
+            resampler_ptr: self.pointer(numbers.kernel),
+            last_sample: numbers.position,
+            samp_frac_num: numbers.phase,
+            magic_samples: numbers.magic,
+        }
+    }
+
+    // The numbers that speex.rs keeps, read back. Rates and ratio are not among them.
+    fn leave(&self, state: &ResamplerState, numbers: &mut Numbers) {
+        numbers.n = state.filt_len;
+        numbers.alloc = state.mem_alloc_size;
+        numbers.buffer = state.buffer_size;
+        numbers.int = state.int_advance;
+        numbers.frac = state.frac_advance;
+        numbers.cutoff = state.cutoff.to_bits();
+        numbers.oversample = state.oversample;
+        numbers.started = state.started;
+        numbers.kernel = self.kernel_number(state.resampler_ptr);
+        numbers.position = state.last_sample;
+        numbers.phase = state.samp_frac_num;
+        numbers.magic = state.magic_samples;
+    }
+
+    // `Resampler::new`: no source rate, ratio 0/1, the default state.
+    pub fn new_state(&self, target: u32) -> Numbers {
+        let mut numbers = Numbers {
+            target,
+            den: 1,
+            ..Numbers::default()
+        };
+        self.leave(&ResamplerState::default(), &mut numbers);
+        numbers
+    }
+
+    // `source_hz` for a rate that is not the one already set. `mem` holds the old alloc entries. Answers the history of the
+    // new alloc entries, and the coefficients: a table of exactly the length needed, since none was there before.
+    pub fn source_hz(&self, numbers: &mut Numbers, hz: u32, mem: &[f32]) -> (Vec<f32>, Vec<f32>) {
+        let (num, den) = simplify(hz, numbers.target);
+        let mut state = self.enter(numbers, mem, &[]);
+        state.samp_frac_num = carried(numbers.phase, den, numbers.den);
+        state.update_filter(num, den);
+        self.leave(&state, numbers);
+        numbers.source = hz;
+        numbers.num = num;
+        numbers.den = den;
+        (state.mem, state.sinc_table)
+    }
+
+    // `process_float`. Answers how many samples were consumed and how many outputs written.
+    pub fn process_float(
+        &self,
+        numbers: &mut Numbers,
+        mem: &mut [f32],
+        table: &[f32],
+        input: &[f32],
+        out: &mut [f32],
+    ) -> (u32, u32) {
+        let mut state = self.enter(numbers, mem, table);
+        let mut consumed = input.len() as u32;
+        let mut written = out.len() as u32;
+        state.process_float(input, &mut consumed, out, &mut written, numbers.den);
+        self.leave(&state, numbers);
+        mem.copy_from_slice(&state.mem);
+        (consumed, written)
+    }
+
+    // `reset_mem`.
+    pub fn reset_mem(&self, numbers: &mut Numbers, mem: &mut [f32]) {
+        let mut state = self.enter(numbers, mem, &[]);
+        state.reset_mem();
+        self.leave(&state, numbers);
+        mem.copy_from_slice(&state.mem);
+    }
+
+    // `skip_zeros`.
+    pub fn skip_zeros(&self, numbers: &mut Numbers) {
+        let mut state = self.enter(numbers, &[], &[]);
+        state.skip_zeros();
+        self.leave(&state, numbers);
+    }
 }

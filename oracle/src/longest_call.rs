@@ -3,34 +3,42 @@
 // answers, every number of the state, and the whole of the history, the coefficients and the output have to be equal, bit for
 // bit. Where the rules refuse a call they leave all of that alone, so ours has to do so too.
 //
-// Says what each call answered and exits with 0, or names the first difference and exits with 1. After the last call it
-// changes one thing after the other on our side: a change that is not noticed ends it with 1 as well.
+// Says what each call answered and exits with 0, or names the first difference and exits with 1. After the last call at two
+// rates it changes what ours holds by one bit after the other: a change that is not noticed ends it with 1 as well.
 
 mod capi;
+mod checks;
+mod compare;
+mod lent;
+mod operation;
 mod ours;
+mod replay;
 mod rules;
 mod segments;
 
 use std::process::ExitCode;
 use std::time::Instant;
 
-use ours::{equal, equal_slices, ours_at, rust_at, unwritten, Ours};
-use rules::{Answer, Lent};
+use compare::{equal_sides, equal_slices, Both, Side};
+use lent::Entries;
+use rules::LONGEST_CALL;
+use segments::{samples, unwritten, Kind, Segment};
 
-const LONGEST: usize = 16_777_216;
+// How many entries of a slice are changed at the end.
+const CHANGED: usize = 16;
 
 // Samples in, room, and the refusal that document 01 has for them.
 const CALLS: [(usize, usize, u32); 10] = [
-    (LONGEST, 0, 0),
-    (LONGEST, 1, 0),
-    (1, LONGEST, 0),
-    (LONGEST + 1, 0, 5),
-    (LONGEST + 1, 1, 5),
-    (1, LONGEST + 1, 5),
-    (LONGEST + 1, LONGEST, 5),
-    (LONGEST, LONGEST + 1, 5),
-    (LONGEST + 1, LONGEST + 1, 5),
-    (LONGEST, LONGEST, 0),
+    (LONGEST_CALL, 0, 0),
+    (LONGEST_CALL, 1, 0),
+    (1, LONGEST_CALL, 0),
+    (LONGEST_CALL + 1, 0, 5),
+    (LONGEST_CALL + 1, 1, 5),
+    (1, LONGEST_CALL + 1, 5),
+    (LONGEST_CALL + 1, LONGEST_CALL, 5),
+    (LONGEST_CALL, LONGEST_CALL + 1, 5),
+    (LONGEST_CALL + 1, LONGEST_CALL + 1, 5),
+    (LONGEST_CALL, LONGEST_CALL, 0),
 ];
 
 // Two rates, and whether the last call at them uses up its input and its room.
@@ -62,110 +70,66 @@ const RATES: [Rates; 3] = [
     },
 ];
 
-// Ours and the Rust, and what the last call of each answered and wrote.
-struct Both {
-    ours: Ours,
-    rust: Lent,
-    our_answer: Answer,
-    rust_answer: Answer,
-    our_out: Vec<f32>,
-    rust_out: Vec<f32>,
+fn process(entries: &impl Entries, side: &mut Side, input: &[f32], room: usize) {
+    side.out = unwritten(room);
+    side.answer = entries.process(&mut side.lent, input, &mut side.out);
 }
 
-impl Both {
-    fn new(source: u32, target: u32) -> Result<Both, String> {
-        Ok(Both {
-            ours: ours_at(source, target)?,
-            rust: rust_at(source, target),
-            our_answer: (0, 0, 0),
-            rust_answer: (0, 0, 0),
-            our_out: Vec::new(),
-            rust_out: Vec::new(),
-        })
-    }
-
-    fn process(&mut self, input: &[f32], room: usize) {
-        self.our_out = unwritten(room);
-        self.rust_out = unwritten(room);
-        self.our_answer = self.ours.process(input, &mut self.our_out);
-        self.rust_answer = self.rust.process(input, &mut self.rust_out);
-    }
-
-    fn compare(&self) -> Result<(), String> {
-        let (ours, rust) = (&self.ours, &self.rust);
-        equal("refusal", self.our_answer.0, self.rust_answer.0)?;
-        equal("consumed", self.our_answer.1, self.rust_answer.1)?;
-        equal("written", self.our_answer.2, self.rust_answer.2)?;
-        equal("state", ours.numbers(), rust.state)?;
-        equal_slices("history", &ours.history, &rust.history)?;
-        equal_slices("coefficients", &ours.coefficients, &rust.coefficients)?;
-        equal_slices("output", &self.our_out, &self.rust_out)
-    }
+// A stream on ours and on the Rust, with what the last call of each answered and wrote.
+struct Stream {
+    both: Both,
+    ours: Side,
+    rust: Side,
 }
 
-// Changes the last bit of the last entry.
-fn alter(slice: &mut [f32]) {
-    if let Some(last) = slice.last_mut() {
-        *last = f32::from_bits(last.to_bits() ^ 1);
+impl Stream {
+    fn at_rates(source: u32, target: u32) -> Stream {
+        let both = Both::new();
+        let (ours, rust) = both.at_rates(source, target);
+        Stream { both, ours, rust }
     }
-}
 
-// Each of these, done twice, undoes itself.
-const ALTERATIONS: [(&str, fn(&mut Both)); 7] = [
-    ("refusal", |both| both.our_answer.0 ^= 1),
-    ("consumed", |both| both.our_answer.1 ^= 1),
-    ("written", |both| both.our_answer.2 ^= 1),
-    ("state", |both| both.ours.state.samp_frac_num ^= 1),
-    ("history", |both| alter(&mut both.ours.history)),
-    ("coefficients", |both| alter(&mut both.ours.coefficients)),
-    ("output", |both| alter(&mut both.our_out)),
-];
-
-// A comparison that could not fail would say nothing.
-fn alterations_noticed(both: &mut Both) -> Result<(), String> {
-    for (name, altered) in ALTERATIONS {
-        altered(both);
-        match both.compare() {
-            Err(difference) if difference.starts_with(name) => altered(both),
-            _ => return Err(format!("{name} was altered, and that was not noticed")),
+    fn call(&mut self, input: &[f32], room: usize, refusal: u32) -> Result<(), String> {
+        process(&self.both.ours, &mut self.ours, input, room);
+        process(&self.both.rules, &mut self.rust, input, room);
+        equal_sides(&self.ours, &self.rust)?;
+        let (number, consumed, written) = self.ours.answer;
+        if number != refusal {
+            return Err(format!("refusal {number}, document 01 has {refusal}"));
         }
+        let length = input.len();
+        println!(
+            "{length} in, room {room}: refusal {number}, {consumed} consumed, {written} written"
+        );
+        Ok(())
     }
-    println!("{} alterations, each noticed", ALTERATIONS.len());
-    Ok(())
-}
 
-fn call(both: &mut Both, input: &[f32], room: usize, refusal: u32) -> Result<(), String> {
-    both.process(input, room);
-    both.compare()?;
-    let (number, consumed, written) = both.our_answer;
-    if number != refusal {
-        return Err(format!("refusal {number}, document 01 has {refusal}"));
+    fn calls(&mut self, input: &[f32]) -> Result<(), String> {
+        equal_sides(&self.ours, &self.rust)?;
+        for (length, room, refusal) in CALLS {
+            self.call(&input[..length], room, refusal)
+                .map_err(|difference| format!("{length} in, room {room}: {difference}"))?;
+        }
+        Ok(())
     }
-    let length = input.len();
-    println!("{length} in, room {room}: refusal {number}, {consumed} consumed, {written} written");
-    Ok(())
-}
-
-fn calls(both: &mut Both, input: &[f32]) -> Result<(), String> {
-    both.compare()?;
-    for (length, room, refusal) in CALLS {
-        call(both, &input[..length], room, refusal)
-            .map_err(|difference| format!("{length} in, room {room}: {difference}"))?;
-    }
-    Ok(())
 }
 
 fn at_rates(rates: &Rates, input: &[f32]) -> Result<(), String> {
-    let mut both = Both::new(rates.source, rates.target)?;
-    calls(&mut both, input)?;
-    let (_, consumed, written) = both.our_answer;
-    let used_up = (consumed as usize == LONGEST, written as usize == LONGEST);
+    let mut stream = Stream::at_rates(rates.source, rates.target);
+    stream.calls(input)?;
+    let (_, consumed, written) = stream.ours.answer;
+    let used_up = (
+        consumed as usize == LONGEST_CALL,
+        written as usize == LONGEST_CALL,
+    );
     if used_up != (rates.all_read, rates.all_written) {
         return Err(format!(
             "the last call was to use up something else: {consumed} consumed, {written} written"
         ));
     }
-    alterations_noticed(&mut both)
+    let changes = checks::changes_noticed(&stream.ours, CHANGED)?;
+    println!("{changes} changes, each noticed");
+    Ok(())
 }
 
 fn compared(input: &[f32]) -> Result<(), String> {
@@ -177,11 +141,13 @@ fn compared(input: &[f32]) -> Result<(), String> {
     Ok(())
 }
 
+// As many samples as the longest call takes, and one more.
 fn noise() -> Vec<f32> {
-    let length = LONGEST + 1;
-    let mut samples = Vec::new();
-    segments::add(&format!("r:1*{length}"), length, &mut samples).expect("a segment");
-    samples
+    samples(&[Segment::Drawn {
+        kind: Kind::Uniform,
+        seed: 1,
+        count: LONGEST_CALL + 1,
+    }])
 }
 
 fn main() -> ExitCode {

@@ -1,6 +1,8 @@
 // The oracle's program: the Rust, document 01's rules around it, and what is asked of them.
 
 mod conform;
+mod lent;
+mod operation;
 mod points;
 mod replay;
 mod rules;
@@ -10,7 +12,7 @@ mod sixteen;
 fn main() -> std::io::Result<()> {
     let mode = std::env::args().nth(1).unwrap_or_default();
     match mode.as_str() {
-        "replay" => replay::replay(),
+        "replay" => replay::replay(&rules::Rules::default()),
         "conform" => conform::conform(),
         "sixteen" => points::sixteen(),
         "sine" => points::sine(),

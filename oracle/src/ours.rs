@@ -1,118 +1,127 @@
-// A state of ours and what is lent to each call with it, through the C interface: the twin of `Lent` in rules.rs, with the
-// same names and the same answers. And what it takes to hold the two beside each other.
-
-use std::fmt::Debug;
+// Ours, through the C interface, as one more that answers: the five entries as a C caller reaches them.
 
 use fon::engine::Numbers;
 
-use crate::capi::{self, State};
-use crate::rules::{rated, Answer, Lent};
-use crate::segments::{word, UNWRITTEN};
+use crate::capi::{self, Answered, State};
+use crate::lent::{Answer, Entries, Lent};
 
-#[derive(Default)]
-pub struct Ours {
-    pub state: State,
-    pub history: Vec<f32>,
-    pub coefficients: Vec<f32>,
-}
-
-impl Ours {
-    // Takes the state from what C answers, and hands on the rest.
-    fn taken(&mut self, answer: capi::Answer) -> Answer {
-        self.state = answer.state;
-        (answer.refusal, answer.consumed, answer.written)
-    }
-
-    pub fn new_state(&mut self, target: u32) -> Answer {
-        self.taken(capi::marshdeck_new(target))
-    }
-
-    pub fn set_rate(&mut self, source: u32) -> Answer {
-        let (history, coefficients) = (&mut self.history, &mut self.coefficients);
-        let answer = capi::set_rate(self.state, source, history, coefficients);
-        self.taken(answer)
-    }
-
-    pub fn process(&mut self, input: &[f32], out: &mut [f32]) -> Answer {
-        let (history, coefficients) = (&mut self.history, &self.coefficients);
-        let answer = capi::process(self.state, history, coefficients, input, out);
-        self.taken(answer)
-    }
-
-    // The numbers of the state, under the names that the oracle has for them.
-    pub fn numbers(&self) -> Numbers {
-        let s = &self.state;
-        Numbers {
-            target: s.target,
-            source: s.source,
-            num: s.num,
-            den: s.den,
-            n: s.filt_len,
-            alloc: s.mem_alloc_size,
-            buffer: s.buffer_size,
-            int: s.int_advance,
-            frac: s.frac_advance,
-            cutoff: s.cutoff.to_bits(),
-            oversample: s.oversample,
-            started: s.started,
-            kernel: s.kernel,
-            position: s.last_sample,
-            phase: s.samp_frac_num,
-            magic: s.magic_samples,
-        }
+fn enter(numbers: &Numbers) -> State {
+    State {
+        target: numbers.target,
+        source: numbers.source,
+        num: numbers.num,
+        den: numbers.den,
+        filt_len: numbers.n,
+        mem_alloc_size: numbers.alloc,
+        buffer_size: numbers.buffer,
+        int_advance: numbers.int,
+        frac_advance: numbers.frac,
+        cutoff: f32::from_bits(numbers.cutoff),
+        oversample: numbers.oversample,
+        started: numbers.started,
+        kernel: numbers.kernel,
+        last_sample: numbers.position,
+        samp_frac_num: numbers.phase,
+        magic_samples: numbers.magic,
     }
 }
 
-// A slice in which what nobody wrote is seen.
-pub fn unwritten(length: usize) -> Vec<f32> {
-    vec![f32::from_bits(UNWRITTEN); length]
-}
-
-// A new state of ours, set to these rates, with slices of just the lengths that ours says it needs.
-pub fn ours_at(source: u32, target: u32) -> Result<Ours, String> {
-    let needed = capi::marshdeck_needed(source, target);
-    let mut ours = Ours {
-        history: unwritten(needed.history as usize),
-        coefficients: unwritten(needed.coefficients as usize),
-        ..Ours::default()
+fn leave(answered: &Answered, numbers: &mut Numbers) -> Answer {
+    let state = &answered.state;
+    *numbers = Numbers {
+        target: state.target,
+        source: state.source,
+        num: state.num,
+        den: state.den,
+        n: state.filt_len,
+        alloc: state.mem_alloc_size,
+        buffer: state.buffer_size,
+        int: state.int_advance,
+        frac: state.frac_advance,
+        cutoff: state.cutoff.to_bits(),
+        oversample: state.oversample,
+        started: state.started,
+        kernel: state.kernel,
+        position: state.last_sample,
+        phase: state.samp_frac_num,
+        magic: state.magic_samples,
     };
-    match (ours.new_state(target).0, ours.set_rate(source).0) {
-        (0, 0) => Ok(ours),
-        (new, rate) => Err(format!(
-            "{source} to {target}: refusal {new} of the new state, {rate} of the rate"
-        )),
+    (answered.refusal, answered.consumed, answered.written)
+}
+
+// How a slice is lent: `call` gets a pointer to entries that are as many and the same, and what it writes there is in the
+// slice afterwards.
+pub trait Lending {
+    fn to_read<R>(&self, slice: &[f32], call: impl FnOnce(*const f32) -> R) -> R;
+    fn to_write<R>(&self, slice: &mut [f32], call: impl FnOnce(*mut f32) -> R) -> R;
+}
+
+// Ours gets the slices themselves.
+pub struct Itself;
+
+impl Lending for Itself {
+    fn to_read<R>(&self, slice: &[f32], call: impl FnOnce(*const f32) -> R) -> R {
+        call(slice.as_ptr())
+    }
+
+    fn to_write<R>(&self, slice: &mut [f32], call: impl FnOnce(*mut f32) -> R) -> R {
+        call(slice.as_mut_ptr())
     }
 }
 
-// The same of the Rust, with slices of just the lengths that document 01 says.
-pub fn rust_at(source: u32, target: u32) -> Lent {
-    let needed = rated(source, target);
-    let mut rust = Lent {
-        history: unwritten(needed.n as usize + 159),
-        coefficients: unwritten(needed.table),
-        ..Lent::default()
-    };
-    assert_eq!(rust.new_state(target).0, 0);
-    assert_eq!(rust.set_rate(source).0, 0);
-    rust
+pub struct Ours<L> {
+    pub lending: L,
 }
 
-// Err: they are not equal, and what each of them is.
-pub fn equal<T: PartialEq + Debug>(name: &str, ours: T, rust: T) -> Result<(), String> {
-    if ours == rust {
-        return Ok(());
+impl<L: Lending> Entries for Ours<L> {
+    fn new_state(&self, lent: &mut Lent, target: u32) -> Answer {
+        leave(&capi::marshdeck_new(target), &mut lent.state)
     }
-    Err(format!("{name}: ours {ours:?}, the Rust {rust:?}"))
-}
 
-// Err: they are not equal, and where they first differ. Any NaN counts as one.
-pub fn equal_slices(name: &str, ours: &[f32], rust: &[f32]) -> Result<(), String> {
-    equal(&format!("length of {name}"), ours.len(), rust.len())?;
-    for (i, (&a, &b)) in ours.iter().zip(rust).enumerate() {
-        if word(a) != word(b) {
-            let (a, b) = (word(a), word(b));
-            return Err(format!("{name}, entry {i}: ours {a:08x}, the Rust {b:08x}"));
-        }
+    // In this and the next two, SAFETY: each pointer comes with the length of its slice, what is lent for writing overlaps
+    // no other, and what is lent to be read is const in the header.
+    fn set_rate(&self, lent: &mut Lent, source: u32) -> Answer {
+        let state = enter(&lent.state);
+        let (mem_len, coefs_len) = (lent.history.len(), lent.coefficients.len());
+        let lending = &self.lending;
+        let answered = lending.to_write(&mut lent.history, |mem| {
+            lending.to_write(&mut lent.coefficients, |coefs| unsafe {
+                capi::marshdeck_set_rate(state, source, mem, mem_len, coefs, coefs_len)
+            })
+        });
+        leave(&answered, &mut lent.state)
     }
-    Ok(())
+
+    fn process(&self, lent: &mut Lent, input: &[f32], out: &mut [f32]) -> Answer {
+        let state = enter(&lent.state);
+        let (mem_len, coefs_len) = (lent.history.len(), lent.coefficients.len());
+        let (in_len, out_len) = (input.len(), out.len());
+        let lending = &self.lending;
+        let answered = lending.to_write(&mut lent.history, |mem| {
+            lending.to_read(&lent.coefficients, |coefs| {
+                lending.to_read(input, |input| {
+                    lending.to_write(out, |out| unsafe {
+                        capi::marshdeck_process(
+                            state, mem, mem_len, coefs, coefs_len, input, in_len, out, out_len,
+                        )
+                    })
+                })
+            })
+        });
+        leave(&answered, &mut lent.state)
+    }
+
+    fn reset(&self, lent: &mut Lent) -> Answer {
+        let state = enter(&lent.state);
+        let mem_len = lent.history.len();
+        let answered = self.lending.to_write(&mut lent.history, |mem| unsafe {
+            capi::marshdeck_reset(state, mem, mem_len)
+        });
+        leave(&answered, &mut lent.state)
+    }
+
+    fn skip(&self, lent: &mut Lent) -> Answer {
+        let answered = capi::marshdeck_skip(enter(&lent.state));
+        leave(&answered, &mut lent.state)
+    }
 }

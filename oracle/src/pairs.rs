@@ -1,7 +1,9 @@
-// Pairs of rates, source and target, of every kind.
+// Rates, and pairs of them, source and target, of every kind.
+
+use fon::engine::DIRECT;
 
 use crate::random::Random;
-use crate::rules::{in_limits, rated};
+use crate::rules::{common_divisor, in_limits, rated, HIGHEST, LOWEST};
 
 pub type Pair = (u32, u32);
 
@@ -23,10 +25,13 @@ const EDGES: [u32; 12] = [
 ];
 
 // Rates that recorders, telephones, discs and films have.
-const COMMON: [u32; 22] = [
+pub const COMMON: [u32; 22] = [
     6_000, 8_000, 11_025, 12_000, 16_000, 18_900, 22_050, 24_000, 32_000, 37_800, 44_056, 44_100,
     47_250, 47_952, 48_000, 48_048, 50_000, 64_000, 88_200, 96_000, 176_400, 192_000,
 ];
+
+// Rates that are refused.
+pub const OUT_OF_LIMITS: [u32; 6] = [0, 1, LOWEST - 1, HIGHEST + 1, 1 << 31, u32::MAX];
 
 // Each with each, itself too.
 fn each_with_each(rates: &[u32]) -> Vec<Pair> {
@@ -36,24 +41,14 @@ fn each_with_each(rates: &[u32]) -> Vec<Pair> {
         .collect()
 }
 
-fn coprime(a: u32, b: u32) -> bool {
-    if b == 0 {
-        a == 1
-    } else {
-        coprime(b, a % b)
-    }
-}
-
-// The lowest rates in limits with the ratio num/den, where that is in lowest terms and its kernel is direct: then the
-// coefficients are n*den, and for the other kernel they are fewer.
+// The lowest rates in limits with the ratio num/den, where that is in lowest terms and its kernel is direct.
 fn direct_at(num: u32, den: u32) -> Option<Pair> {
-    let factor = 4_000u32.div_ceil(num.min(den));
+    let factor = LOWEST.div_ceil(num.min(den));
     let (source, target) = (num * factor, den * factor);
-    if !coprime(num, den) || !in_limits(source) || !in_limits(target) {
+    if common_divisor(num, den) != 1 || !in_limits(source) || !in_limits(target) {
         return None;
     }
-    let needed = rated(source, target);
-    (needed.table == (needed.n * den) as usize).then_some((source, target))
+    (rated(source, target).kernel == DIRECT).then_some((source, target))
 }
 
 // Every ratio that has the direct kernel, once: its den is at most 16, the highest oversample.
@@ -65,13 +60,13 @@ fn direct() -> Vec<Pair> {
 
 // A rate in limits, as often low as high.
 fn rate(random: &mut Random) -> u32 {
-    let span = 188_001 >> random.below(7);
-    4_000 + random.below(span) as u32
+    let span = (HIGHEST - LOWEST) >> random.below(7);
+    random.between(LOWEST, LOWEST + span)
 }
 
 // Where the source is the lower rate and the kernel is interpolated, the coefficients are always the same ones; so seven in
 // eight pairs have the higher rate first.
-fn random_pair(random: &mut Random) -> Pair {
+pub fn random_pair(random: &mut Random) -> Pair {
     let (a, b) = (rate(random), rate(random));
     if random.below(8) == 0 {
         (a, b)
@@ -82,7 +77,7 @@ fn random_pair(random: &mut Random) -> Pair {
 
 // All kinds by name; `count` of the random ones.
 pub fn kinds(count: usize) -> Vec<(&'static str, Vec<Pair>)> {
-    let mut random = Random(1);
+    let mut random = Random::new(1);
     let drawn = (0..count).map(|_| random_pair(&mut random)).collect();
     vec![
         ("worked by hand", WORKED.to_vec()),

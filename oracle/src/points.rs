@@ -4,7 +4,8 @@ use std::io::{self, Read, Write};
 
 use fon::engine;
 
-use crate::rules::Lent;
+use crate::lent::{Entries, Lent};
+use crate::rules::Rules;
 use crate::segments;
 use crate::sixteen::to_i16;
 
@@ -36,19 +37,16 @@ pub fn sine() -> io::Result<()> {
 
 // `SSSSSS TTTTTT IIIII`, source, target, index: the bits of the coefficient there.
 pub fn coefficients() -> io::Result<()> {
-    let mut lent = Lent {
-        history: vec![0.0; 7_839],
-        coefficients: vec![0.0; 7_688],
-        ..Lent::default()
-    };
+    let rules = Rules::default();
+    let mut lent = Lent::longest();
     each_line(|point| {
         let words: Vec<u32> = point
             .split(' ')
             .map(|w| segments::number(w).expect("a number"))
             .collect();
         if (lent.state.source, lent.state.target) != (words[0], words[1]) {
-            assert_eq!(lent.new_state(words[1]).0, 0);
-            assert_eq!(lent.set_rate(words[0]).0, 0);
+            assert_eq!(rules.new_state(&mut lent, words[1]).0, 0);
+            assert_eq!(rules.set_rate(&mut lent, words[0]).0, 0);
         }
         format!("{:08x}", lent.coefficients[words[2] as usize].to_bits())
     })

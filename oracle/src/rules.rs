@@ -1,13 +1,15 @@
 // What document 01 adds around the Rust: which call is refused with which number, and which part of a lent slice a call
 // may touch. Written from document 01's text; the Rust is asked only for calls that are accepted.
 
-use fon::engine::{self, Numbers, DIRECT, INTERPOLATED, NO_KERNEL};
+use fon::engine::{Engine, Numbers, DIRECT, INTERPOLATED, NO_KERNEL};
+
+use crate::lent::{Answer, Entries, Lent};
 
 // "Sizes".
-const LOWEST: u32 = 4_000;
-const HIGHEST: u32 = 192_000;
-const LONGEST_HISTORY: u64 = 7_839;
-const LONGEST_CALL: usize = 16_777_216;
+pub const LOWEST: u32 = 4_000;
+pub const HIGHEST: u32 = 192_000;
+pub const LONGEST_HISTORY: u64 = 7_839;
+pub const LONGEST_CALL: usize = 16_777_216;
 
 // "Refusal numbers": those that a call can get.
 pub const RATE: u32 = 1;
@@ -31,12 +33,12 @@ pub struct Rated {
     frac: u32,
     cutoff: f32,
     oversample: u32,
-    kernel: u32,
+    pub kernel: u32,
     // How many coefficients are needed.
     pub table: usize,
 }
 
-fn common_divisor(a: u32, b: u32) -> u32 {
+pub fn common_divisor(a: u32, b: u32) -> u32 {
     if b == 0 {
         a
     } else {
@@ -92,7 +94,7 @@ fn as_rated(s: &Numbers, r: &Rated) -> bool {
 }
 
 // "A state .. belongs together when".
-fn belongs_together(s: &Numbers) -> bool {
+pub fn belongs_together(s: &Numbers) -> bool {
     if s.source == 0 {
         return fresh(s);
     }
@@ -110,73 +112,73 @@ fn belongs_together(s: &Numbers) -> bool {
         && (s.started == 1 || s.magic == 0)
 }
 
-// A state and what is lent to each call with it.
-#[derive(Default)]
-pub struct Lent {
-    pub state: Numbers,
-    pub history: Vec<f32>,
-    pub coefficients: Vec<f32>,
-}
-
-// What a call answers: refusal number (0 where accepted), consumed, written.
-pub type Answer = (u32, u32, u32);
-
 const ACCEPTED: Answer = (0, 0, 0);
 
 fn refused(number: u32) -> Answer {
     (number, 0, 0)
 }
 
-impl Lent {
-    pub fn new_state(&mut self, target: u32) -> Answer {
+// How long the history has to be where a state is given another rate.
+pub fn history_needed(state: &Numbers, new: &Rated) -> usize {
+    state.alloc.max(new.n + 159) as usize
+}
+
+// The Rust behind the rules: it is asked where a call is accepted.
+#[derive(Default)]
+pub struct Rules {
+    engine: Engine,
+}
+
+impl Entries for Rules {
+    fn new_state(&self, lent: &mut Lent, target: u32) -> Answer {
         if !in_limits(target) {
-            self.state = Numbers::default();
+            lent.state = Numbers::default();
             return refused(RATE);
         }
-        self.state = engine::new(target);
+        lent.state = self.engine.new_state(target);
         ACCEPTED
     }
 
-    pub fn set_rate(&mut self, source: u32) -> Answer {
-        if !belongs_together(&self.state) {
+    fn set_rate(&self, lent: &mut Lent, source: u32) -> Answer {
+        if !belongs_together(&lent.state) {
             return refused(NOT_TOGETHER);
         }
         if !in_limits(source) {
             return refused(RATE);
         }
-        if source == self.state.source {
+        if source == lent.state.source {
             return ACCEPTED;
         }
-        let new = rated(source, self.state.target);
-        let old_alloc = self.state.alloc as usize;
-        if self.history.len() < old_alloc.max(new.n as usize + 159) {
+        let new = rated(source, lent.state.target);
+        if lent.history.len() < history_needed(&lent.state, &new) {
             return refused(HISTORY);
         }
-        if self.coefficients.len() < new.table {
+        if lent.coefficients.len() < new.table {
             return refused(COEFFICIENTS);
         }
-        let (mem, table) = engine::source_hz(&mut self.state, source, &self.history[..old_alloc]);
+        let used = &lent.history[..lent.state.alloc as usize];
+        let (mem, table) = self.engine.source_hz(&mut lent.state, source, used);
         // What the Rust made of the rates is what document 01 says.
-        assert!(as_rated(&self.state, &new) && table.len() == new.table);
-        assert!(belongs_together(&self.state));
-        self.history[..mem.len()].copy_from_slice(&mem);
-        self.coefficients[..table.len()].copy_from_slice(&table);
+        assert!(as_rated(&lent.state, &new) && table.len() == new.table);
+        assert!(belongs_together(&lent.state));
+        lent.history[..mem.len()].copy_from_slice(&mem);
+        lent.coefficients[..table.len()].copy_from_slice(&table);
         ACCEPTED
     }
 
-    pub fn process(&mut self, input: &[f32], out: &mut [f32]) -> Answer {
-        if !belongs_together(&self.state) {
+    fn process(&self, lent: &mut Lent, input: &[f32], out: &mut [f32]) -> Answer {
+        if !belongs_together(&lent.state) {
             return refused(NOT_TOGETHER);
         }
-        if self.state.source == 0 {
+        if lent.state.source == 0 {
             return refused(NO_SOURCE);
         }
-        let alloc = self.state.alloc as usize;
-        let table = rated(self.state.source, self.state.target).table;
-        if self.history.len() < alloc {
+        let alloc = lent.state.alloc as usize;
+        let table = rated(lent.state.source, lent.state.target).table;
+        if lent.history.len() < alloc {
             return refused(HISTORY);
         }
-        if self.coefficients.len() < table {
+        if lent.coefficients.len() < table {
             return refused(COEFFICIENTS);
         }
         if input.is_empty() {
@@ -185,34 +187,32 @@ impl Lent {
         if input.len() > LONGEST_CALL || out.len() > LONGEST_CALL {
             return refused(TOO_LONG);
         }
-        let (consumed, written) = engine::process_float(
-            &mut self.state,
-            &mut self.history[..alloc],
-            &self.coefficients[..table],
-            input,
-            out,
-        );
-        assert!(belongs_together(&self.state));
+        let (mem, table) = (&mut lent.history[..alloc], &lent.coefficients[..table]);
+        let (consumed, written) =
+            self.engine
+                .process_float(&mut lent.state, mem, table, input, out);
+        assert!(belongs_together(&lent.state));
         (0, consumed, written)
     }
 
-    pub fn reset(&mut self) -> Answer {
-        if !belongs_together(&self.state) {
+    fn reset(&self, lent: &mut Lent) -> Answer {
+        if !belongs_together(&lent.state) {
             return refused(NOT_TOGETHER);
         }
-        let alloc = self.state.alloc as usize;
-        if self.history.len() < alloc {
+        let alloc = lent.state.alloc as usize;
+        if lent.history.len() < alloc {
             return refused(HISTORY);
         }
-        engine::reset_mem(&mut self.state, &mut self.history[..alloc]);
+        self.engine
+            .reset_mem(&mut lent.state, &mut lent.history[..alloc]);
         ACCEPTED
     }
 
-    pub fn skip(&mut self) -> Answer {
-        if !belongs_together(&self.state) {
+    fn skip(&self, lent: &mut Lent) -> Answer {
+        if !belongs_together(&lent.state) {
             return refused(NOT_TOGETHER);
         }
-        engine::skip_zeros(&mut self.state);
+        self.engine.skip_zeros(&mut lent.state);
         ACCEPTED
     }
 }

@@ -1,4 +1,6 @@
-// The samples that a script names, and the hash and the print of samples: what the driver and the piped build share.
+// The samples that a script names, and the hash and the print of samples: what the oracle's programs share.
+
+use std::fmt::{self, Display, Formatter};
 
 const HASH_FACTOR: u64 = 65_599;
 const HASH_MODULUS: u64 = 4_294_967_291;
@@ -8,7 +10,7 @@ const ONE_NAN: u32 = 0x7fc0_0000;
 pub const UNWRITTEN: u32 = 0x4b1d_f00d;
 
 // The entries of an `s` segment that are not like `r`.
-const SPECIAL: [u32; 16] = [
+pub const SPECIAL: [u32; 16] = [
     ONE_NAN,
     0x7f80_0000,
     0xff80_0000,
@@ -26,6 +28,11 @@ const SPECIAL: [u32; 16] = [
     0x4b80_0000,
     0x0000_0000,
 ];
+
+// A slice in which what nobody wrote is seen.
+pub fn unwritten(length: usize) -> Vec<f32> {
+    vec![f32::from_bits(UNWRITTEN); length]
+}
 
 // A decimal number without a sign, at most 4294967295.
 pub fn number(word: &str) -> Option<u32> {
@@ -47,56 +54,129 @@ pub fn bits(word: &str) -> Option<u32> {
     }
 }
 
-fn listed(word: &str) -> Option<f32> {
-    let found = if word == "nan" {
+// The three ways in which samples are drawn from a seed.
+#[derive(Clone, Copy, PartialEq, Eq, Debug)]
+pub enum Kind {
+    Uniform,
+    Special,
+    Subnormal,
+}
+
+impl Kind {
+    fn parse(word: &str) -> Option<Kind> {
+        Some(match word {
+            "r" => Kind::Uniform,
+            "s" => Kind::Special,
+            "d" => Kind::Subnormal,
+            _ => return None,
+        })
+    }
+
+    fn letter(self) -> char {
+        match self {
+            Kind::Uniform => 'r',
+            Kind::Special => 's',
+            Kind::Subnormal => 'd',
+        }
+    }
+}
+
+// Samples as a script names them. Each is the bits of an f32.
+#[derive(Clone, PartialEq, Eq, Debug)]
+pub enum Segment {
+    Listed(Vec<u32>),
+    Constant { sample: u32, count: usize },
+    Drawn { kind: Kind, seed: u32, count: usize },
+}
+
+fn listed(word: &str) -> Option<u32> {
+    if word == "nan" {
         Some(ONE_NAN)
     } else {
         bits(word)
-    };
-    found.map(f32::from_bits)
+    }
 }
 
 fn uniform(x: u32) -> f32 {
     ((x >> 8) as f32 - 8_388_608.0) / 8_388_608.0
 }
 
-fn drawn(kind: &str, x: u32) -> f32 {
+fn drawn(kind: Kind, x: u32) -> f32 {
     match kind {
-        "s" if x < 1 << 29 => f32::from_bits(SPECIAL[(x >> 25) as usize % 16]),
-        "d" => f32::from_bits(x >> 9 | (x & 1) << 31),
+        Kind::Special if x < 1 << 29 => f32::from_bits(SPECIAL[(x >> 25) as usize % 16]),
+        Kind::Subnormal => f32::from_bits(x >> 9 | (x & 1) << 31),
         _ => uniform(x),
     }
 }
 
-// Adds the samples of one segment, at most until there are `most` samples in all. None: it is no segment, or too long.
-pub fn add(segment: &str, most: usize, samples: &mut Vec<f32>) -> Option<()> {
-    let (kind, rest) = segment.split_once(':')?;
-    if kind == "b" {
-        for word in rest.split(',') {
-            samples.push(listed(word)?);
+impl Segment {
+    // None: it is no segment.
+    pub fn parse(word: &str) -> Option<Segment> {
+        let (kind, rest) = word.split_once(':')?;
+        if kind == "b" {
+            return rest
+                .split(',')
+                .map(listed)
+                .collect::<Option<_>>()
+                .map(Segment::Listed);
         }
-    } else {
         let (first, count) = rest.split_once('*')?;
         let count = number(count)? as usize;
-        if count > most {
-            return None;
+        Some(if kind == "c" {
+            let sample = bits(first)?;
+            Segment::Constant { sample, count }
+        } else {
+            let kind = Kind::parse(kind)?;
+            let seed = number(first)?;
+            Segment::Drawn { kind, seed, count }
+        })
+    }
+
+    // How many samples it names.
+    pub fn count(&self) -> usize {
+        match self {
+            Segment::Listed(samples) => samples.len(),
+            Segment::Constant { count, .. } | Segment::Drawn { count, .. } => *count,
         }
-        match kind {
-            "c" => samples.resize(samples.len() + count, f32::from_bits(bits(first)?)),
-            "r" | "s" | "d" => {
-                let mut x = number(first)?;
+    }
+
+    // Adds its samples to those that are there.
+    fn add_to(&self, samples: &mut Vec<f32>) {
+        match *self {
+            Segment::Listed(ref list) => samples.extend(list.iter().map(|&w| f32::from_bits(w))),
+            Segment::Constant { sample, count } => {
+                samples.resize(samples.len() + count, f32::from_bits(sample));
+            }
+            Segment::Drawn { kind, seed, count } => {
+                let mut x = seed;
                 for _ in 0..count {
                     x = x.wrapping_mul(1_664_525).wrapping_add(1_013_904_223);
                     samples.push(drawn(kind, x));
                 }
             }
-            _ => return None,
         }
     }
-    if samples.len() > most {
-        None
-    } else {
-        Some(())
+}
+
+// The samples of all segments, one after the other.
+pub fn samples(segments: &[Segment]) -> Vec<f32> {
+    let mut samples = Vec::new();
+    for segment in segments {
+        segment.add_to(&mut samples);
+    }
+    samples
+}
+
+impl Display for Segment {
+    fn fmt(&self, f: &mut Formatter) -> fmt::Result {
+        match self {
+            Segment::Listed(samples) => {
+                let words: Vec<String> = samples.iter().map(|w| format!("{w:08x}")).collect();
+                write!(f, "b:{}", words.join(","))
+            }
+            Segment::Constant { sample, count } => write!(f, "c:{sample:08x}*{count}"),
+            Segment::Drawn { kind, seed, count } => write!(f, "{}:{seed}*{count}", kind.letter()),
+        }
     }
 }
 

@@ -12,7 +12,7 @@ use piped_fon::{Audio, Resampler, Sink};
 #[path = "../segments.rs"]
 mod segments;
 
-const LONGEST_CALL: usize = 16_384;
+use segments::Segment;
 
 // A sink that keeps what it is given, in a slice as long as the script's room.
 struct Kept<'a> {
@@ -57,7 +57,7 @@ struct Stream {
 impl Stream {
     // A `process` line: its room, its samples. All samples are read, since the room is large enough.
     fn process(&mut self, room: usize, input: &[f32], flush: bool) {
-        let mut out = vec![f32::from_bits(segments::UNWRITTEN); room];
+        let mut out = segments::unwritten(room);
         let mut written = 0;
         let sink = Kept {
             hz: NonZeroU32::new(self.target).expect("a target rate"),
@@ -82,6 +82,11 @@ impl Stream {
     }
 }
 
+fn input(words: &[&str]) -> Vec<f32> {
+    let segment = |word: &&str| Segment::parse(word).expect("a segment");
+    segments::samples(&words.iter().map(segment).collect::<Vec<_>>())
+}
+
 fn main() -> io::Result<()> {
     let mut script = String::new();
     io::stdin().read_to_string(&mut script)?;
@@ -101,11 +106,7 @@ fn main() -> io::Result<()> {
             }
             "rate" => stream.source = number(1),
             "process" => {
-                let mut input = Vec::new();
-                for segment in &words[2..] {
-                    segments::add(segment, LONGEST_CALL, &mut input).expect("a segment");
-                }
-                stream.process(number(1) as usize, &input, flush);
+                stream.process(number(1) as usize, &input(&words[2..]), flush);
                 flush = false;
             }
             "#" => flush = words[1..] == ["flush"],

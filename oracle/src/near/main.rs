@@ -9,11 +9,25 @@
 
 mod angles;
 mod bound;
+#[path = "../capi.rs"]
 mod capi;
+#[path = "../compare.rs"]
+mod compare;
+#[path = "../lent.rs"]
+mod lent;
+#[path = "../operation.rs"]
+mod operation;
+#[path = "../ours.rs"]
 mod ours;
+#[path = "../pairs.rs"]
 mod pairs;
+#[path = "../random.rs"]
 mod random;
+#[path = "../replay.rs"]
+mod replay;
+#[path = "../rules.rs"]
 mod rules;
+#[path = "../segments.rs"]
 mod segments;
 
 use std::process::ExitCode;
@@ -21,8 +35,8 @@ use std::time::Instant;
 
 use bound::{Bound, Met};
 use capi::marshdeck_sine;
+use compare::{equal, equal_slices, equal_states, Both, Side};
 use fon::engine;
-use ours::{equal, equal_slices, ours_at, rust_at};
 use pairs::Pair;
 use random::Random;
 
@@ -40,35 +54,39 @@ fn meet_sines(name: &str, bound: Bound, drawn: impl Iterator<Item = f64>) -> Res
 
 fn sine(bound: Bound, count: usize) -> Result<(), String> {
     meet_sines("chosen", bound, angles::CHOSEN.into_iter())?;
-    let mut random = Random(1);
+    let mut random = Random::new(1);
     for (name, draw) in angles::KINDS {
         meet_sines(name, bound, (0..count).map(|_| draw(&mut random)))?;
     }
     Ok(())
 }
 
+fn equal_but_coefficients(ours: &Side, rust: &Side) -> Result<(), String> {
+    equal("refusal", ours.answer.0, rust.answer.0)?;
+    equal_states(ours.lent.state, rust.lent.state)?;
+    equal_slices("history", &ours.lent.history, &rust.lent.history)
+}
+
 // Everything that two rates give a new state: the coefficients as near as the bound asks, the rest equal.
-fn meet_rates(met: &mut Met, (source, target): Pair) -> Result<(), String> {
+fn meet_rates(met: &mut Met, both: &Both, (source, target): Pair) -> Result<(), String> {
     let at = |what: &str| format!("{source} to {target}, {what}");
-    let ours = ours_at(source, target)?;
-    let rust = rust_at(source, target);
-    equal(&at("state"), ours.numbers(), rust.state)?;
-    equal_slices(&at("history"), &ours.history, &rust.history)?;
-    let (a, b) = (&ours.coefficients, &rust.coefficients);
-    equal(&at("count of coefficients"), a.len(), b.len())?;
-    for i in 0..a.len() {
+    let (ours, rust) = both.at_rates(source, target);
+    equal_but_coefficients(&ours, &rust).map_err(|difference| at(&difference))?;
+    let coefficients = ours.lent.coefficients.iter().zip(&rust.lent.coefficients);
+    for (i, (&a, &b)) in coefficients.enumerate() {
         let place = || at(&format!("coefficient {i}"));
-        met.meet(a[i].into(), b[i].into(), place)?;
+        met.meet(a.into(), b.into(), place)?;
     }
     Ok(())
 }
 
 fn coefficients(bound: Bound, count: usize) -> Result<(), String> {
+    let both = Both::new();
     for (name, pairs) in pairs::kinds(count) {
         let mut met = Met::new(bound);
-        for &pair in &pairs {
-            meet_rates(&mut met, pair)?;
-        }
+        pairs
+            .iter()
+            .try_for_each(|&pair| meet_rates(&mut met, &both, pair))?;
         println!(
             "coefficients, {name}: {} pairs, {}",
             pairs.len(),
