@@ -1,20 +1,24 @@
 /* Marshdeck's resampler for C: one channel of f32, from any source rate in limits to a target rate.
  *
- * Link with libcapi.a, which `rt staticlib capi` writes for x86-64, and with -lm (it calls fmod). Nothing here
- * allocates, keeps a pointer, or has a state of its own: all that is kept between two calls is in the caller's
- * marshdeck_state and in the two buffers that the caller lends. Calls on different states and buffers may run
- * at the same time.
+ * Link with libcapi.a, which `rt staticlib capi` writes for x86-64 Linux, and with -lm (it calls fmod). Nothing
+ * here allocates, keeps a pointer, or has a state of its own: all that is kept between two calls is in the
+ * caller's marshdeck_state and in the two buffers that the caller lends. Calls on different states and buffers
+ * may run at the same time.
  *
  * Whatever the numbers are, a call comes back: a bad one gets a number, counts of 0 and the state that it was
- * given, and its buffers keep their contents.
+ * given (a refused marshdeck_new: all 0), and its buffers keep their contents.
  *
- * What the caller has to promise, because nothing here can see it, is said of pointers alone:
+ * What the caller has to promise, because nothing here can see it, is said of pointers and of the
+ * floating-point mode:
  *   - a pointer with its length points to that many floats, aligned as floats are; those of a const pointer
  *     may be read, the others read and written;
  *   - where the length is 0 the pointer may be NULL;
  *   - a buffer that is not const overlaps no other buffer of the same call: mem, out and a coefs that is not
  *     const stand apart from each other and from the rest. in and a const coefs may overlap each other;
- *   - while a call runs, nobody else writes what it was lent, or reads what it may write. */
+ *   - while a call runs, nobody else writes what it was lent, or reads what it may write;
+ *   - the thread's floating-point mode is the one that a C program starts with: round to nearest, subnormals
+ *     kept (no FTZ or DAZ, which -ffast-math may set for a whole program), no exception unmasked. In another
+ *     mode the numbers are others, a good state may get MARSHDECK_STATE, and nothing that is proved holds. */
 #ifndef MARSHDECK_H
 #define MARSHDECK_H
 
@@ -58,10 +62,10 @@ typedef struct {
     uint32_t frac_advance;
     float cutoff;            /* a NaN comes back as some NaN, not always with the same bits */
     uint32_t oversample;
-    uint32_t started;        /* 1 once samples were processed */
+    uint32_t started;        /* 1 once samples were processed; a reset leaves it */
     uint32_t kernel;         /* 0 none, 1 direct, 2 interpolated */
-    uint32_t last_sample;    /* position */
-    uint32_t samp_frac_num;  /* phase */
+    uint32_t last_sample;    /* position: the entry of mem at which the next output's window starts */
+    uint32_t samp_frac_num;  /* phase: how far past that entry the output lies, in den-ths */
     uint32_t magic_samples;  /* samples that a rate change left over in mem */
 } marshdeck_state;
 
@@ -77,7 +81,8 @@ marshdeck_answer marshdeck_new(uint32_t target_hz);
 
 /* Sets the source rate. Refusals 7, 1, 2, 3, in that order. The rate that is set already is accepted with
  * no look at the buffers. marshdeck_needed says how long they have to be; mem also never less than
- * state.mem_alloc_size. Entries past what is needed stay.
+ * state.mem_alloc_size. Entries past what is needed stay. A rate other than the one that is set puts the
+ * position at filt_len / 2; in the middle of a stream its samples are carried over.
  *
  * mem and coefs belong to the state from here on: lend them unchanged to the calls that follow. Before the
  * first rate is set, any values may be in them. */
@@ -87,14 +92,20 @@ marshdeck_answer marshdeck_set_rate(marshdeck_state state, uint32_t source_hz,
 
 /* Resamples: reads from in and writes to out until one of them is used up. Refusals 7, 6, 2, 3, 4, 5, in that
  * order. What was not consumed has to be offered again. Room for nothing (out_len 0) is accepted; an empty
- * input is refused. out keeps what it had past `written`. */
+ * input is refused. out keeps what it had past `written`.
+ *
+ * After a rate change what was left over in mem is played first, so a call may write and consume nothing:
+ * consumed 0 does not mean the end. */
 marshdeck_answer marshdeck_process(marshdeck_state state,
                                    float *mem, size_t mem_len,
                                    const float *coefs, size_t coefs_len,
                                    const float *in, size_t in_len,
                                    float *out, size_t out_len);
 
-/* Makes the state ready for another stream at the same rate: what is used of mem becomes 0. Refusals 7, 2. */
+/* What is used of mem becomes 0, and so do position, phase and magic_samples; started stays. Refusals 7, 2.
+ * For another recording at the same rates call marshdeck_skip next: set_rate leaves the position at
+ * filt_len / 2, reset at 0, where the filter's run-in comes out too. For a recording at another rate begin
+ * with marshdeck_new. */
 marshdeck_answer marshdeck_reset(marshdeck_state state, float *mem, size_t mem_len);
 
 /* Leaves out the filter's run-in: the position becomes filt_len / 2. Refusal 7. */
@@ -106,7 +117,8 @@ int16_t marshdeck_to_i16(float x);
 /* A sample divided by 32768, exactly. */
 float marshdeck_from_i16(int16_t sample);
 
-/* The sine that the coefficients are made with. Meant for angles up to 256 in size. */
+/* The sine that the coefficients are made with, of an angle in radians. Meant for angles up to 256 in size. An
+ * infinity or a NaN gives a NaN, and may set errno. */
 double marshdeck_sine(double angle);
 
 typedef struct {
@@ -114,8 +126,9 @@ typedef struct {
     uint64_t total;   /* 0 where refused */
 } marshdeck_total;
 
-/* How many samples a closed recording of m samples becomes: m * den / num, rounded up. Closed means that
- * filt_len / 2 zeros were read after its samples. */
+/* How many samples a closed recording of m samples becomes: m * den / num, rounded up. It was begun with a new
+ * state and its first rate, or with reset and then skip, and kept that rate; closed means that filt_len / 2
+ * zeros were read after its samples. Refusals 1, 100, in that order. */
 marshdeck_total marshdeck_closed_total(uint64_t m, uint32_t source_hz, uint32_t target_hz);
 
 typedef struct {

@@ -127,20 +127,21 @@ static int take(recording *r, const unsigned char *bytes, size_t count)
     return r->copies ? write_samples(r, in, count) : feed(r, in, count);
 }
 
-/* Reads standard input to its end. fread gives less than a block only there, or where it cannot read on. */
+/* Reads standard input to its end. fread gives less than a block only there, or where it cannot read on: that is asked at
+ * once, while errno still tells why. */
 static int take_all(recording *r)
 {
     unsigned char bytes[2 * BLOCK];
     size_t got;
     do {
         got = fread(bytes, 1, sizeof bytes, stdin);
+        if (ferror(stdin)) {
+            return failed_by_system("standard input");
+        }
         if (!take(r, bytes, got / 2)) {
             return 0;
         }
     } while (got == sizeof bytes);
-    if (ferror(stdin)) {
-        return failed_by_system("standard input");
-    }
     if (got % 2 != 0) {
         fputs("example: standard input ends with half a sample, which is dropped\n", stderr);
     }

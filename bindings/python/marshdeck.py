@@ -6,16 +6,21 @@ what that has to be lent: the state, the history and the coefficients. It needs 
 It loads libmarshdeck.so, which the script `build` beside this file makes, from the repository's target/staticlib or from the
 folder that the environment variable MARSHDECK_LIB names.
 
-A call may read less than it was given: what it did not read is offered again. A recording is closed by `closing_zeros`
-after its last sample, and then it has as many outputs as `closed_total` tells:
+The thread's floating-point mode has to be the usual one: round to nearest, no flush to zero.
 
-    resampler = Resampler(47952)
-    resampler.set_source_hz(48000)
-    unread = samples + array("f", [0.0]) * resampler.closing_zeros()
-    while unread:
-        consumed, outputs = resampler.process(unread[:1024], 1024)
-        unread = unread[consumed:]
-        ...
+A call may read less than it was given: what it did not read is offered again. A recording is closed by `closing_zeros`
+after its last sample, and then it has as many outputs as `closed_total` tells, if it began with a new resampler and its
+first rate, or with `reset` and then `skip_zeros`, and kept that rate:
+
+    stream = Resampler(47952)
+    stream.set_source_hz(48000)
+    stream_samples = samples + array("f", [0.0]) * stream.closing_zeros()
+    outputs = array("f")
+    read = 0
+    while read < len(stream_samples):
+        consumed, made = stream.process(stream_samples[read : read + 1024], 1024)
+        read += consumed
+        outputs += made
 """
 
 from __future__ import annotations
@@ -184,6 +189,8 @@ def _copied(samples: Samples) -> array[float]:
         return array("f", samples)
     if view.format not in ("f", "<f", "B"):
         raise TypeError(f"samples are f32, as floats or as their bytes, and not of format {view.format!r}")
+    if view.ndim != 1:
+        raise TypeError("samples are of one channel, in one dimension")
     copy = array("f")
     copy.frombytes(view.tobytes())
     return copy
@@ -228,6 +235,9 @@ class Resampler:
 
         Answers how many samples were consumed, and the outputs. What was not consumed has to be offered again. No room (0) is
         accepted. The samples are an array("f"), another buffer of f32, the bytes of f32, little-endian, or any numbers.
+
+        The samples that a rate change left over are played first, so a call may make outputs and yet consume nothing: 0
+        consumed does not mean the end.
         """
         if room < 0:
             raise ValueError(f"the room is {room}")
@@ -272,6 +282,9 @@ def closed_total(samples: int, source_hz: int, target_hz: int) -> int:
     """How many outputs a closed recording of so many samples has: samples * den / num, rounded up. Refusals 1, 100.
 
     Closed means that `closing_zeros` were read after its samples; they are not among those that are counted here.
+
+    This is told of a recording that began with a new resampler and its first rate, or with `reset` and then `skip_zeros`, and
+    that kept its rate. Of any other the outputs may be more or fewer.
     """
     if samples < 0:
         raise ValueError(f"the samples are {samples}")

@@ -6,6 +6,7 @@ The answers are in this repository, or in a copy of them, whose folder MARSHDECK
 from __future__ import annotations
 
 import ctypes
+import math
 import os
 import re
 import struct
@@ -312,6 +313,12 @@ class Recording(unittest.TestCase):
         with self.assertRaises(ValueError):
             rated(48000, 16000).process(b"\0\0\0", 1)
 
+    def test_more_than_one_channel_is_an_error(self) -> None:
+        for shape in ([2, 150], [150, 2], [1, 300], []):
+            view = memoryview(bytes(4 * math.prod(shape))).cast("f", shape)
+            with self.assertRaises(TypeError):
+                rated(48000, 16000).process(view, 1000)
+
     def test_cutting_is_free(self) -> None:
         for rates in RATES:
             stream = closed(rated(*rates), noise(3, 1000))
@@ -354,15 +361,17 @@ class Recording(unittest.TestCase):
         self.assertEqual(resampler.state().den, 1)
 
     def test_threads_share_a_resampler_one_call_after_the_other(self) -> None:
-        resampler = rated(48000, 16000)
-        threads = [threading.Thread(target=resampler.process, args=([0.5] * 3000, 3000)) for _ in range(8)]
+        shared, alone = rated(48000, 47952), rated(48000, 47952)
+        made = []
+        threads = [
+            threading.Thread(target=lambda: made.append(len(shared.process([0.5] * 3001, 4000)[1]))) for _ in range(8)
+        ]
         for thread in threads:
             thread.start()
         for thread in threads:
             thread.join()
-        once = rated(48000, 16000)
-        fed(once, array("f", [0.5]) * 24000, 3000, 3000)
-        self.assertEqual(numbers(resampler), numbers(once))
+        in_turn = [len(alone.process([0.5] * 3001, 4000)[1]) for _ in range(8)]
+        self.assertEqual((numbers(shared), sorted(made)), (numbers(alone), sorted(in_turn)))
 
 
 class Page(unittest.TestCase):

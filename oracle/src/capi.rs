@@ -24,7 +24,7 @@ pub struct State {
 
 // marshdeck_answer.
 #[repr(C)]
-pub struct Answered {
+pub struct FlatAnswer {
     pub refusal: u32,
     pub consumed: u32,
     pub written: u32,
@@ -48,7 +48,7 @@ pub struct Sizes {
 
 // A call without a pointer is safe whatever it is given.
 unsafe extern "C" {
-    pub safe fn marshdeck_new(target_hz: u32) -> Answered;
+    pub safe fn marshdeck_new(target_hz: u32) -> FlatAnswer;
 
     pub fn marshdeck_set_rate(
         state: State,
@@ -57,7 +57,7 @@ unsafe extern "C" {
         mem_len: usize,
         coefs: *mut f32,
         coefs_len: usize,
-    ) -> Answered;
+    ) -> FlatAnswer;
 
     pub fn marshdeck_process(
         state: State,
@@ -69,11 +69,11 @@ unsafe extern "C" {
         in_len: usize,
         out: *mut f32,
         out_len: usize,
-    ) -> Answered;
+    ) -> FlatAnswer;
 
-    pub fn marshdeck_reset(state: State, mem: *mut f32, mem_len: usize) -> Answered;
+    pub fn marshdeck_reset(state: State, mem: *mut f32, mem_len: usize) -> FlatAnswer;
 
-    pub safe fn marshdeck_skip(state: State) -> Answered;
+    pub safe fn marshdeck_skip(state: State) -> FlatAnswer;
 
     pub safe fn marshdeck_to_i16(x: f32) -> i16;
 

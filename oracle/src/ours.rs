@@ -2,7 +2,7 @@
 
 use fon::engine::Numbers;
 
-use crate::capi::{self, Answered, State};
+use crate::capi::{self, FlatAnswer, State};
 use crate::lent::{Answer, Entries, Lent};
 
 fn enter(numbers: &Numbers) -> State {
@@ -26,7 +26,7 @@ fn enter(numbers: &Numbers) -> State {
     }
 }
 
-fn leave(answered: &Answered, numbers: &mut Numbers) -> Answer {
+fn leave(answered: &FlatAnswer, numbers: &mut Numbers) -> Answer {
     let state = &answered.state;
     *numbers = Numbers {
         target: state.target,

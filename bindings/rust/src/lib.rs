@@ -7,7 +7,8 @@
 //!
 //! A call may read less than it was given: what it did not read is offered again. A recording is closed by
 //! [`closing_zeros`](Resampler::closing_zeros) after its last sample, and then it has as many outputs as
-//! [`closed_total`] tells.
+//! [`closed_total`] tells, if it began with a new resampler and its first rate, or with
+//! [`reset`](Resampler::reset) and then [`skip_zeros`](Resampler::skip_zeros), and kept that rate.
 //!
 //! ```
 //! use marshdeck::{closed_total, Consumed, Refusal, Resampler, Written, MAX_CALL};
@@ -38,8 +39,8 @@
 #![deny(unsafe_code)]
 #![warn(missing_docs)]
 
-#[cfg(not(target_arch = "x86_64"))]
-compile_error!("libcapi.a is made for x86-64 alone");
+#[cfg(not(all(target_arch = "x86_64", target_os = "linux")))]
+compile_error!("libcapi.a is made for x86-64 Linux alone");
 
 mod refusal;
 mod state;
@@ -127,6 +128,9 @@ impl Resampler {
     /// Resamples: reads from the input and writes to the output until one of them is used up. What was not consumed has to
     /// be offered again. An output without room is accepted. Past what was written the output keeps what it had.
     ///
+    /// The samples that a rate change left over are played first, so a call may write outputs and yet consume nothing: 0
+    /// consumed does not mean the end.
+    ///
     /// # Errors
     ///
     /// In this order: [`Refusal::NoRate`], [`Refusal::EmptyInput`], [`Refusal::TooLong`].
@@ -196,6 +200,9 @@ fn grow(buffer: &mut Vec<f32>, needed: usize) {
 
 /// How many outputs a closed recording of these samples has: samples \* den / num, rounded up. Closed means that
 /// [`closing_zeros`](Resampler::closing_zeros) were read after its samples; they are not among those that are counted here.
+///
+/// This is told of a recording that began with a new resampler and its first rate, or with [`reset`](Resampler::reset) and
+/// then [`skip_zeros`](Resampler::skip_zeros), and that kept its rate. Of any other the outputs may be more or fewer.
 ///
 /// # Errors
 ///

@@ -1,9 +1,13 @@
 //! The functions of `include/marshdeck.h`, each behind a safe one. All unsafe code of the crate is in this file.
 //!
-//! The header asks nothing of the numbers: a call with bad ones is refused. What it asks is said of pointers, and a slice
-//! of Rust keeps all of it: it points to as many aligned floats as it is long, each with a value; nobody else writes what
-//! is lent as `&[f32]`; nobody else reads or writes what is lent as `&mut [f32]`, so that it overlaps no other slice of
-//! the call. No pointer is kept when a call has returned.
+//! The header asks nothing of the numbers: a call with bad ones is refused. What it asks is said of pointers and of the
+//! floating-point mode.
+//!
+//! Of pointers a slice of Rust keeps all of it: it points to as many aligned floats as it is long, each with a value;
+//! nobody else writes what is lent as `&[f32]`; nobody else reads or writes what is lent as `&mut [f32]`, so that it
+//! overlaps no other slice of the call. No pointer is kept when a call has returned.
+//!
+//! The mode, round to nearest with subnormals kept, is the one that Rust assumes of every thread.
 
 #![allow(unsafe_code)]
 

@@ -1,14 +1,13 @@
 // The resampler for callers in C, and so in every language that calls C: `include/marshdeck.h` declares
 // what is exported here, and says what C has to promise of its pointers.
 //
-// Each export is one function of ours through the flat twins of the crate `flat`, and its contract is that
-// function's, said of the state that the flat one stands for. None has a `requires`: a slice is a pointer and
+// Each export but `marshdeck_needed` is one function of ours, through the twins of the crate `flat` where it
+// has a state or an enum, and its contract is that function's, said of the state that the flat one stands for. None has a `requires`: a slice is a pointer and
 // a length in C, and what no state can hold gets refusal 7 before any slice is looked at.
 use flat::FlatAnswer;
 use flat::FlatSizes;
 use flat::FlatState;
 use flat::FlatTotal;
-use judge::Refusal;
 use quality::QualityMapping;
 use rates::Setting;
 use resampler::Consumed;
@@ -102,10 +101,10 @@ pub extern "C" fn marshdeck_from_i16(sample: i16) -> f32
 
 // The sine that the coefficients are made with.
 #[no_mangle]
-pub extern "C" fn marshdeck_sine(a: f64) -> f64
-    ensures { λ r. ⌜ r ≡ sineAt a ⌝ }
+pub extern "C" fn marshdeck_sine(angle: f64) -> f64
+    ensures { λ r. ⌜ r ≡ sineAt angle ⌝ }
 {
-    sine::sine(a)
+    sine::sine(angle)
 }
 
 // How many outputs a closed recording has.
@@ -123,18 +122,10 @@ pub extern "C" fn marshdeck_needed(source_hz: u32, target_hz: u32) -> FlatSizes
     ensures { λ r. ⌜ r ≡ neededSizes «source_hz» «target_hz» ⌝ }
 {
     if !sizes::in_limits(source_hz) {
-        return FlatSizes {
-            refusal: Refusal::Rate.number(),
-            history: 0,
-            coefficients: 0,
-        };
+        return flat::no_sizes();
     }
     if !sizes::in_limits(target_hz) {
-        return FlatSizes {
-            refusal: Refusal::Rate.number(),
-            history: 0,
-            coefficients: 0,
-        };
+        return flat::no_sizes();
     }
     let setting = Setting::new(QualityMapping::house(), source_hz, target_hz);
     FlatSizes {

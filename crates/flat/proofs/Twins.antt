@@ -1,5 +1,5 @@
 -- Nothing is lost at the boundary: a state comes back from its numbers, and numbers that a state has come back from it. Assumes nothing.
-use mathlib.Core.Path.{_≡_, refl}
+use mathlib.Core.Path.{_≡_, refl, ap}
 use Prim.Native.Nat.{ℕ, zero, suc, _≤_}
 use native.Mathlib.Omega.{arith}
 use Rattle.rates.specs.declared.Kernel.{Kernel}
@@ -29,3 +29,13 @@ state-back s = rw (kernel-back (s .kernel))
 pub flat-back : (f : FlatState) → f .kernel ≤ 2 → flatOf (stateOf f) ≡ f
 unfolding flatOf stateOf
 flat-back f h = rw (number-back (f .kernel) h)
+
+below-3 : (k : Kernel) → kernelNumber k ≤ 2
+below-3 Unset = omega arith
+below-3 Direct = omega arith
+below-3 Interpolated = omega arith
+
+-- and with a kernel above 2 no state has them
+pub no-state-above : (f : FlatState) → 3 ≤ f .kernel → (s : ResamplerState) → flatOf s ≡ f → ⊥
+unfolding flatOf
+no-state-above f h s e = omega (arith, ap (λ (g : FlatState). g .kernel) e, below-3 (s .kernel))

@@ -1,4 +1,4 @@
--- The flat twins: a state, what a call tells of it and a closed total, in numbers that cross to C. Assumes nothing.
+-- The flat twins: a state, what a call tells of it, a closed total and sizes, in numbers that cross to C. Assumes nothing.
 use Prim.Native.Nat.{ℕ}
 use mathlib.Core.Bool.{Bool, cond}
 use lib.Dec.{eqb, leb}
@@ -7,12 +7,13 @@ use Rattle.rates.specs.declared.Kernel.the-variants.{Unset, Direct, Interpolate
 use Rattle.state.specs.Belongs.{kernelNumber}
 use Rattle.state.specs.declared.ResamplerState.{ResamplerState}
 use Rattle.judge.specs.Refusals.{refusalNumber}
-use Rattle.judge.specs.declared.Refusal.the-variants.{State}
+use Rattle.judge.specs.declared.Refusal.the-variants.{Rate, State}
 use Rattle.resampler.specs.Answers.{Told}
 use Rattle.recording.specs.Totals.{TotalTold}
 use Rattle.flat.specs.declared.FlatState.{FlatState}
 use Rattle.flat.specs.declared.FlatAnswer.{FlatAnswer}
 use Rattle.flat.specs.declared.FlatTotal.{FlatTotal}
+use Rattle.flat.specs.declared.FlatSizes.{FlatSizes}
 
 -- ---- a state
 
@@ -69,8 +70,8 @@ abbrev pub isState : FlatState → Bool
 isState f = leb (f .kernel) 2
 
 -- what is said of the state that has these numbers; where none has them, `otherwise`
-abbrev pub ofState : {A : Type 0} → FlatState → A → (ResamplerState → A) → A
-ofState f otherwise said = cond (isState f) (said (stateOf f)) otherwise
+abbrev pub byState : {A : Type 0} → FlatState → A → (ResamplerState → A) → A
+byState f otherwise said = cond (isState f) (said (stateOf f)) otherwise
 
 -- ---- an answer
 
@@ -84,7 +85,7 @@ noState f = record { refusal = refusalNumber State; consumed = 0; written = 0; s
 
 -- what a call on a flat state tells
 abbrev pub flatCall : FlatState → (ResamplerState → Told) → FlatAnswer
-flatCall f call = ofState f (noState f) (λ s. flatTold (call s))
+flatCall f call = byState f (noState f) (λ s. flatTold (call s))
 
 -- ---- a closed total
 
@@ -95,3 +96,9 @@ tooManyNumber = 100
 -- a total in numbers: 0 as refusal where it is the answer
 abbrev pub flatTotal : TotalTold → FlatTotal
 flatTotal t = record { refusal = cond (t .counted) 0 (cond (eqb (t .number) 0) tooManyNumber (t .number)); total = t .total }
+
+-- ---- sizes
+
+-- refusal 1, and none
+abbrev pub noSizes : FlatSizes
+noSizes = record { refusal = refusalNumber Rate; history = 0; coefficients = 0 }

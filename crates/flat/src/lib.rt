@@ -9,11 +9,10 @@ use resampler::Answer;
 use state::ResamplerState;
 ghost use mathlib.Core.Path.{_≡_};
 ghost use Prim.Native.Nat.{_≤_};
-ghost use Rattle.state.specs.Belongs.{kernelNumber};
 ghost use Rattle.judge.specs.Refusals.{maxCall};
 ghost use Rattle.resampler.specs.Answers.{told};
 ghost use Rattle.recording.specs.Totals.{totalTold};
-ghost use Rattle.flat.specs.Flat.{kernelAt, flatOf, stateOf, isState, flatTold, noState, flatTotal};
+ghost use Rattle.flat.specs.Flat.{kernelAt, flatOf, stateOf, isState, flatTold, noState, flatTotal, noSizes};
 
 // The highest number that a kernel has.
 const LAST_KERNEL: u32 = 2;
@@ -87,17 +86,6 @@ fn kernel_at(number: u32) -> Kernel
     Kernel::Interpolated
 }
 
-// The number of a kernel.
-fn kernel_number(kernel: Kernel) -> u32
-    ensures { λ r. ⌜ r ≡ kernelNumber kernel ⌝ }
-{
-    match kernel {
-        Kernel::Unset => 0,
-        Kernel::Direct => 1,
-        Kernel::Interpolated => 2,
-    }
-}
-
 // The state with these numbers.
 pub fn state_of(flat: FlatState) -> ResamplerState
     ensures { λ r. ⌜ r ≡ stateOf flat ⌝ }
@@ -140,7 +128,7 @@ fn flat_of(state: ResamplerState) -> FlatState
         cutoff: state.cutoff,
         oversample: state.oversample,
         started: state.started,
-        kernel: kernel_number(kernel),
+        kernel: state::kernel_number(kernel),
         last_sample: state.last_sample,
         samp_frac_num: state.samp_frac_num,
         magic_samples: state.magic_samples,
@@ -199,5 +187,16 @@ pub fn flat_total(total: Total) -> FlatTotal
             refusal: 0,
             total: written.0,
         },
+    }
+}
+
+// The sizes where a rate is out of limits: refusal 1, and none.
+pub fn no_sizes() -> FlatSizes
+    ensures { λ r. ⌜ r ≡ noSizes ⌝ }
+{
+    FlatSizes {
+        refusal: Refusal::Rate.number(),
+        history: 0,
+        coefficients: 0,
     }
 }

@@ -21,7 +21,7 @@ use flat::FlatAnswer;
 use flat::FlatState;
 
 // What an output entry holds before a call, so that one that is left alone shows.
-const UNTOUCHED: u32 = 0x4b1d_f00d;
+const UNWRITTEN: u32 = 0x4b1d_f00d;
 
 // The operations that are no call, and what every answer begins with.
 pub fn change(
@@ -110,7 +110,7 @@ pub fn call(
     input: &[f32],
     output: &mut [f32],
 ) -> [u32; 25] {
-    fill(output, 0, UNTOUCHED);
+    fill(output, 0, UNWRITTEN);
     if order.name == PROCESS {
         return process(order.count, kept, history, coefs, input, output);
     }
@@ -136,10 +136,10 @@ fn call_unheard(
 // The calls that take no slice.
 fn call_alone(name: usize, target: u32, kept: [u32; 25]) -> [u32; 25] {
     if name == NEW {
-        return told(capi::marshdeck_new(target), kept);
+        return keep(capi::marshdeck_new(target), kept);
     }
     if name == SKIP {
-        return told(capi::marshdeck_skip(state_in(kept)), kept);
+        return keep(capi::marshdeck_skip(state_in(kept)), kept);
     }
     kept
 }
@@ -156,7 +156,7 @@ fn process(
     let c = least(kept[COEFFICIENTS] as usize, coefs.len());
     let n = least(count as usize, input.len());
     let room = least(kept[ROOM] as usize, output.len());
-    told(
+    keep(
         capi::marshdeck_process(
             state_in(kept),
             &mut history[0..h],
@@ -171,7 +171,7 @@ fn process(
 fn rate(source: u32, kept: [u32; 25], history: &mut [f32], coefs: &mut [f32]) -> [u32; 25] {
     let h = least(kept[HISTORY] as usize, history.len());
     let c = least(kept[COEFFICIENTS] as usize, coefs.len());
-    told(
+    keep(
         capi::marshdeck_set_rate(state_in(kept), source, &mut history[0..h], &mut coefs[0..c]),
         kept,
     )
@@ -179,14 +179,14 @@ fn rate(source: u32, kept: [u32; 25], history: &mut [f32], coefs: &mut [f32]) ->
 
 fn reset(kept: [u32; 25], history: &mut [f32]) -> [u32; 25] {
     let h = least(kept[HISTORY] as usize, history.len());
-    told(
+    keep(
         capi::marshdeck_reset(state_in(kept), &mut history[0..h]),
         kept,
     )
 }
 
 // Keeps what a call answered, whether it was accepted or not.
-fn told(answer: FlatAnswer, kept: [u32; 25]) -> [u32; 25] {
+fn keep(answer: FlatAnswer, kept: [u32; 25]) -> [u32; 25] {
     let state = answer.state;
     [
         answer.refusal,

@@ -43,7 +43,7 @@ sameBits (fin s m e) nan = false
 sameBits (fin s m e) (inf t) = false
 sameBits (fin s m e) (fin t n d) = Bool·beq s t && eqb m n && sameExponent e d
 
--- a number for each kernel, to compare two by
+-- a number for each kernel, to compare two by, and to stand for it in C
 abbrev pub kernelNumber : Kernel → ℕ
 kernelNumber Unset = 0
 kernelNumber Direct = 1

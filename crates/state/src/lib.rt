@@ -224,7 +224,8 @@ fn same_bits(a: f32, b: f32) -> bool
     f32::to_bits(a) == f32::to_bits(b)
 }
 
-fn kernel_number(kernel: Kernel) -> u32
+// The number of a kernel: two are compared by it, and in C it stands for the kernel.
+pub fn kernel_number(kernel: Kernel) -> u32
     ensures { λ r. ⌜ r ≡ kernelNumber kernel ⌝ }
 {
     match kernel {

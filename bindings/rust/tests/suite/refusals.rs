@@ -4,7 +4,8 @@ use marshdeck::{closed_total, needed, Consumed, Refusal, Resampler, MAX_CALL};
 
 use crate::{bits, noise};
 
-const UNWRITTEN: f32 = 7.0;
+/// What every entry of an output holds before a call.
+const MARKED: f32 = 7.0;
 
 /// In the middle of a stream from 48,000 to 16,000 Hz.
 fn started() -> Resampler {
@@ -46,10 +47,10 @@ fn without_a_source_rate_a_call_gets_6_before_4_and_5() {
     let mut resampler = Resampler::new(16_000).unwrap();
     let fresh = *resampler.state();
     for input in [vec![], vec![0.5; 3], vec![0.0; MAX_CALL + 1]] {
-        let mut output = [UNWRITTEN; 3];
+        let mut output = [MARKED; 3];
         let refused = resampler.process(&input, &mut output);
         assert_eq!(refused, Err(Refusal::NoRate));
-        assert_eq!(output, [UNWRITTEN; 3]);
+        assert_eq!(output, [MARKED; 3]);
         assert_eq!(*resampler.state(), fresh);
     }
 }
@@ -58,10 +59,10 @@ fn without_a_source_rate_a_call_gets_6_before_4_and_5() {
 fn an_empty_input_gets_4_before_5() {
     for room in [0, 1, MAX_CALL + 1] {
         let mut resampler = started();
-        let mut output = vec![UNWRITTEN; room];
+        let mut output = vec![MARKED; room];
         let refused = resampler.process(&[], &mut output);
         assert_eq!(refused, Err(Refusal::EmptyInput));
-        assert!(output.iter().all(|&x| x == UNWRITTEN));
+        assert!(output.iter().all(|&x| x == MARKED));
         assert_eq!(told(resampler), told(started()));
     }
 }
@@ -71,10 +72,10 @@ fn a_longer_call_than_16777216_gets_5() {
     let longest = vec![0.5; MAX_CALL];
     let too_long = vec![0.5; MAX_CALL + 1];
     let mut resampler = started();
-    let mut output = [UNWRITTEN; 3];
+    let mut output = [MARKED; 3];
     let refused = resampler.process(&too_long, &mut output);
     assert_eq!(refused, Err(Refusal::TooLong));
-    assert_eq!(output, [UNWRITTEN; 3]);
+    assert_eq!(output, [MARKED; 3]);
     let mut output = too_long;
     let refused = resampler.process(&[1.0], &mut output);
     assert_eq!(refused, Err(Refusal::TooLong));

@@ -6,7 +6,7 @@
 
 use marshdeck::{Refusal, Resampler};
 
-use crate::{segments, truth};
+use crate::{drawn, segments, truth};
 
 #[derive(Default)]
 struct Player {
@@ -28,11 +28,8 @@ fn no_counts(result: Result<(), Refusal>) -> Played {
 }
 
 fn process(resampler: &mut Resampler, room: usize, words: &[&str]) -> Played {
-    let mut input = Vec::new();
-    for segment in words {
-        segments::add(segment, usize::MAX, &mut input).expect("a segment");
-    }
-    let mut output = vec![f32::from_bits(segments::UNWRITTEN); room];
+    let input = drawn(words);
+    let mut output = segments::unwritten(room);
     match resampler.process(&input, &mut output) {
         Ok((consumed, written)) => (0, consumed.0, written.0, output),
         Err(refusal) => (refusal.number(), 0, 0, output),

@@ -38,22 +38,22 @@ target-in c = test-passed _ (not-false _ (target-at c))
 in-limits-requires : tie.Need-in-limits-requires
 in-limits-requires c κs = search needs
 
-number-requires : tie.Need-number-requires
-number-requires c κs = search needs
+no-sizes-requires : tie.Need-no-sizes-requires
+no-sizes-requires c κs = search needs
 
 returns : tie.Need-returns
 unfolding neededSizes
-returns c = rw (← c .before .before .in-limits .ensures, c .before .if1 .taken, c .number .ensures)
+returns c = rw (← c .before .before .in-limits .ensures, c .before .if1 .taken) (c .no-sizes .ensures)
 
 in-limits-requires-2 : tie.Need-in-limits-requires-2
 in-limits-requires-2 c κs = search needs
 
-number-requires-2 : tie.Need-number-requires-2
-number-requires-2 c κs = search needs
+no-sizes-requires-2 : tie.Need-no-sizes-requires-2
+no-sizes-requires-2 c κs = search needs
 
 returns-2 : tie.Need-returns-2
 unfolding neededSizes
-returns-2 c = rw (source-at (c .before .before .before), ap not (sym (c .before .before .in-limits2 .ensures)) ∙ c .before .if2 .taken, c .number2 .ensures)
+returns-2 c = rw (source-at (c .before .before .before), ap not (sym (c .before .before .in-limits2 .ensures)) ∙ c .before .if2 .taken) (c .no-sizes2 .ensures)
 
 house-requires : tie.Need-house-requires
 house-requires c κs = search needs
@@ -78,10 +78,10 @@ marshdeck-needed-spec =
     tie.close
     (tie.spec
     in-limits-requires
-    number-requires
+    no-sizes-requires
     returns
     in-limits-requires-2
-    number-requires-2
+    no-sizes-requires-2
     returns-2
     house-requires
     new-requires
