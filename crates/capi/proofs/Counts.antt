@@ -23,18 +23,18 @@ abbrev pub Within : Told → Type 0
 Within t = (t .consumed ≤ maxCall) × (t .written ≤ maxCall)
 
 -- where an accepted call counts nothing
-none : (v : Verdict) (s t : ResamplerState) → Within (byVerdict v (λ r. refused r s) (accepted t 0 0))
-none (Refuse r) s t = (omega arith, omega arith)
-none Accept s t = (omega arith, omega arith)
+uncounted : (v : Verdict) (s t : ResamplerState) → Within (byVerdict v (λ r. refused r s) (accepted t 0 0))
+uncounted (Refuse r) s t = (omega arith, omega arith)
+uncounted Accept s t = (omega arith, omega arith)
 
 pub new-within : (target : ℕ) → Within (newTold target)
 unfolding newTold
-new-within target = none (newVerdict target) zeroState (freshState target)
+new-within target = uncounted (newVerdict target) zeroState (freshState target)
 
 pub rate-within : (s : ResamplerState) (source : ℕ) (mem coefs : List Float) → Within (rateTold house s source mem coefs)
 unfolding rateTold
 rate-within s source mem coefs =
-    none (rateVerdict house s source (length mem) (length coefs)) s
+    uncounted (rateVerdict house s source (length mem) (length coefs)) s
     (unlessSame s source s (updatedState s source (settingOf house source (s .target))))
 
 pub process-fits : (s : ResamplerState) (mem coefs input out : List Float) → Within (processTold house s mem coefs input out)
@@ -42,9 +42,9 @@ process-fits s mem coefs input out = process-within house house-sane s mem coefs
 
 pub reset-within : (s : ResamplerState) (mem : List Float) → Within (resetTold house s mem)
 unfolding resetTold
-reset-within s mem = none (resetVerdict house s (length mem)) s (movedTo s (s .started) 0 0 0)
+reset-within s mem = uncounted (resetVerdict house s (length mem)) s (movedTo s (s .started) 0 0 0)
 
 pub skip-within : (s : ResamplerState) → Within (skipTold house s)
 unfolding skipTold
 skip-within s =
-    none (skipVerdict house s) s (movedTo s (s .started) (s .«filt_len» / 2) (s .«samp_frac_num») (s .«magic_samples»))
+    uncounted (skipVerdict house s) s (movedTo s (s .started) (s .«filt_len» / 2) (s .«samp_frac_num») (s .«magic_samples»))

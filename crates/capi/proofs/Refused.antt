@@ -17,11 +17,7 @@ use Rattle.flat.specs.Flat.{flatOf, stateOf, isState, byState, flatTold, noStat
 use Rattle.flat.specs.declared.FlatState.{FlatState}
 use Rattle.flat.specs.declared.FlatAnswer.{FlatAnswer}
 use Rattle.flat.proofs.Twins.{flat-back}
-use Rattle.capi.specs.Contracts.{FlatSetsRate, FlatProcesses, FlatResets, FlatUnmoved}
-
--- the call is refused, which every number but 0 says
-abbrev pub FlatRefused : FlatAnswer → Type 0
-FlatRefused answer = answer .refusal ≡ 0 → ⊥
+use Rattle.capi.specs.Contracts.{FlatSetsRate, FlatProcesses, FlatResets, FlatRefused, FlatUnmoved}
 
 -- ---- one call, by whether some state has the numbers
 module _ (f : FlatState) (call : ResamplerState → Told) {answer : FlatAnswer} (a : answer ≡ flatCall f call) (no : FlatRefused answer) where

@@ -40,7 +40,11 @@ neededSizes source target =
     cond (not (inLimits source) || not (inLimits target)) noSizes
     (record { refusal = 0; history = historyNeeded (settingOf house source target .«filt_len»); coefficients = settingOf house source target .coefs })
 
--- ---- a refused call
+-- ---- a refused call: proofs/Refused.antt proves what it leaves
+
+-- every number but 0 refuses
+abbrev pub FlatRefused : FlatAnswer → Type 0
+FlatRefused answer = answer .refusal ≡ 0 → ⊥
 
 -- counts of zero, and the numbers as they were given
 pub record FlatUnmoved (f : FlatState) (answer : FlatAnswer) : Type 0 where

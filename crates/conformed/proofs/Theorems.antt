@@ -37,11 +37,11 @@ use Rattle.conformed.proofs.Odd.{copied}
 use Rattle.conformed.proofs.Resampled as resampling
 
 -- nothing lies past a list's end
-past : (k : ℕ) (l : List ℕ) → length l ≤ k → drop k l ≡ []
-past zero [] h = refl
-past zero (x ∷ l) h = absurd (omega arith)
-past (suc k) [] h = refl
-past (suc k) (x ∷ l) h = past k l (omega arith)
+drop-all : (k : ℕ) (l : List ℕ) → length l ≤ k → drop k l ≡ []
+drop-all zero [] h = refl
+drop-all zero (x ∷ l) h = absurd (omega arith)
+drop-all (suc k) [] h = refl
+drop-all (suc k) (x ∷ l) h = drop-all k l (omega arith)
 
 -- ---- the header and the body of what was read
 module _ (head : List ℕ) (reads : List (List ℕ)) (r : ReadAs head reads) where
@@ -55,7 +55,7 @@ module _ (head : List ℕ) (reads : List (List ℕ)) (r : ReadAs head reads) whe
 
   body-is : drop headerLength (head ++ joined reads) ≡ joined reads
   body-is = elim (below-or-not (length head) headerLength) [
-    | inl short ↦ rw (r .short-ends short, append-nil head) (past headerLength head (omega arith))
+    | inl short ↦ rw (r .short-ends short, append-nil head) (drop-all headerLength head (omega arith))
     | inr full ↦
         (let e : headerLength ≡ length head = omega (arith, r .head-to) in
         ap (λ (k : ℕ). drop k (head ++ joined reads)) e ∙ drop-append-seam head (joined reads))

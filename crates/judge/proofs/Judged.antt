@@ -30,9 +30,9 @@ unless : (t : Bool) (rest : Verdict) → t ≡ false → cond t Accept rest ≡ 
 unless t rest f e = rw f at e
 
 -- nor either of two
-neither : (a b : Bool) → a || b ≡ false → (a ≡ false) × (b ≡ false)
-neither true b e = absurd (true≢false e)
-neither false b e = (refl, e)
+no-test-held : (a b : Bool) → a || b ≡ false → (a ≡ false) × (b ≡ false)
+no-test-held true b e = absurd (true≢false e)
+no-test-held false b e = (refl, e)
 
 -- ---- new state
 pub new-accepts : (target : ℕ) → newVerdict target ≡ Accept → InLimits target
@@ -96,7 +96,7 @@ process-lengths row s mem coefs inn room e =
     let p3 = past (ltb coefs (settingIn s .coefs)) _ _ (p2 .1) in
     let p4 = past (eqb inn 0) _ _ (p3 .1) in
     let p5 = past (ltb maxCall inn || ltb maxCall room) _ Accept (p4 .1) in
-    let (i, o) = neither (ltb maxCall inn) (ltb maxCall room) (p5 .0) in
+    let (i, o) = no-test-held (ltb maxCall inn) (ltb maxCall room) (p5 .0) in
     (ltb-false maxCall inn i, ltb-false maxCall room o)
 
 -- ---- reset and skip

@@ -15,8 +15,8 @@ use Rattle.sixteen.specs.Sixteen.{halfUp, stepCount}
 use Rattle.sixteen.proofs.Exact.{mul-pow-exact}
 
 -- ---- what the two comparisons say of a finite x
-abbrev one : Float
-one = fin false 1 (pos 0)
+abbrev full-scale : Float
+full-scale = fin false 1 (pos 0)
 
 nor-l : (p q : Bool) → T (not (p || q)) → T (not p)
 nor-l true q t = t
@@ -41,7 +41,7 @@ record Below (s : Bool) (m : ℕ) (e : ℤ) : Type 0 where
   under : m * up e < down e
   signed : s ≡ true → m * up e ≡ 0
 
-below : (s : Bool) (m : ℕ) (e : ℤ) → T (le nought (fin s m e)) → T (not (le one (fin s m e))) → Below s m e
+below : (s : Bool) (m : ℕ) (e : ℤ) → T (le nought (fin s m e)) → T (not (le full-scale (fin s m e))) → Below s m e
 unfolding le
 below false m e z o = record { under = omega (arith, differ (1 * 1 * down e) (m * up e * 1) o); signed = λ q. absurd (true≢false (sym q)) }
 below true m e z o =
@@ -120,7 +120,7 @@ pub record Halved (x : Float) : Type 0 where
   pub small : toUnsigned 64 (halves x) < 65536
   pub is : (toUnsigned 64 (halves x) + 1) / 2 ≡ stepCount x
 
-pub to-halves : (x : Float) → T (fits binary32 x) → T (le nought x) → T (not (le one x)) → Halved x
+pub to-halves : (x : Float) → T (fits binary32 x) → T (le nought x) → T (not (le full-scale x)) → Halved x
 unfolding stepCount
 to-halves nan t z o = unfold le in absurd z
 to-halves (inf true) t z o = unfold le in absurd z
@@ -135,14 +135,14 @@ to-halves (fin s m e) t z o =
       is = ap (λ (q : ℕ). (q + 1) / 2) (k .is) ∙ nearest-of-halves (m * up e) (down e) (b .under);
     }
 
-either : (p q : Bool) (X : Type 0) → (T p → X) → (T q → X) → T (p || q) → X
-either true q X f g t = f tt
-either false q X f g t = g t
+one-of-two : (p q : Bool) (X : Type 0) → (T p → X) → (T q → X) → T (p || q) → X
+one-of-two true q X f g t = f tt
+one-of-two false q X f g t = g t
 
 le-of-test : (a b : ℕ) → T (ltb a b || (eqb a b && true)) → a ≤ b
-le-of-test a b t = either (ltb a b) (eqb a b && true) (a ≤ b) (λ u. omega (arith, ltb→lt a b u)) (λ u. le-of-eq (eqb→eq a b (and-l (eqb a b) true u))) t
+le-of-test a b t = one-of-two (ltb a b) (eqb a b && true) (a ≤ b) (λ u. omega (arith, ltb→lt a b u)) (λ u. le-of-eq (eqb→eq a b (and-l (eqb a b) true u))) t
 
-pub from-one : (x : Float) → T (le one x) → 32768 ≡ stepCount x
+pub from-one : (x : Float) → T (le full-scale x) → 32768 ≡ stepCount x
 unfolding stepCount le
 from-one nan t = absurd t
 from-one (inf s) t = refl
