@@ -10,8 +10,8 @@
  *
  * What the caller has to promise, because nothing here can see it, is said of pointers and of the
  * floating-point mode:
- *   - a pointer with its length points to that many floats, aligned as floats are; those of a const pointer
- *     may be read, the others read and written;
+ *   - each of mem, coefs, in and out points to as many floats as mem_len, coefs_len, in_len and out_len say,
+ *     aligned as floats are; those of a const pointer may be read, the others read and written;
  *   - where the length is 0 the pointer may be NULL;
  *   - a buffer that is not const overlaps no other buffer of the same call: mem, out and a coefs that is not
  *     const stand apart from each other and from the rest. in and a const coefs may overlap each other;

@@ -1,9 +1,9 @@
 // The resampler for callers in C, and so in every language that calls C: `include/marshdeck.h` declares
-// what is exported here, and says what C has to promise of its pointers.
+// what is exported here, and says what C has to promise of its pointers and of the floating-point mode.
 //
 // Each export but `marshdeck_needed` is one function of ours, through the twins of the crate `flat` where it
-// has a state or an enum, and its contract is that function's, said of the state that the flat one stands for. None has a `requires`: a slice is a pointer and
-// a length in C, and what no state can hold gets refusal 7 before any slice is looked at.
+// has a state or an enum, and its contract is that function's, said of the state that the flat one stands
+// for. None has a `requires`. Numbers that no state has get refusal 7 before any slice is looked at.
 use flat::FlatAnswer;
 use flat::FlatSizes;
 use flat::FlatState;
