@@ -1,26 +1,10 @@
 // Ours, as include/marshdeck.h declares it to C.
 
-// marshdeck_state.
-#[repr(C)]
-#[derive(Clone, Copy)]
-pub struct State {
-    pub target: u32,
-    pub source: u32,
-    pub num: u32,
-    pub den: u32,
-    pub filt_len: u32,
-    pub mem_alloc_size: u32,
-    pub buffer_size: u32,
-    pub int_advance: u32,
-    pub frac_advance: u32,
-    pub cutoff: f32,
-    pub oversample: u32,
-    pub started: u32,
-    pub kernel: u32,
-    pub last_sample: u32,
-    pub samp_frac_num: u32,
-    pub magic_samples: u32,
-}
+// marshdeck_state, as the bindings for Rust have it.
+#[path = "../../bindings/rust/src/state.rs"]
+mod state;
+
+pub use state::State;
 
 // marshdeck_answer.
 #[repr(C)]

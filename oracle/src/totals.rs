@@ -8,15 +8,16 @@
 // the latter.
 
 mod capi;
+mod ending;
 mod lent;
 mod pairs;
 mod random;
 mod rules;
 
 use std::process::ExitCode;
-use std::time::Instant;
 
 use capi::{marshdeck_closed_total, marshdeck_needed};
+use ending::ended;
 use fon::engine::Numbers;
 use pairs::{Pair, COMMON, OUT_OF_LIMITS};
 use random::Random;
@@ -234,20 +235,8 @@ fn asked(words: &[String]) -> Option<Result<(), String>> {
 }
 
 fn main() -> ExitCode {
-    let start = Instant::now();
-    let words: Vec<String> = std::env::args().collect();
-    match asked(&words) {
-        Some(Ok(())) => {
-            println!("in {:.0} s", start.elapsed().as_secs_f64());
-            ExitCode::SUCCESS
-        }
-        Some(Err(difference)) => {
-            eprintln!("{difference}");
-            ExitCode::from(1)
-        }
-        None => {
-            eprintln!("usage: totals COUNT PAIRS [cut|limit-off|count-first|filter-alone]");
-            ExitCode::from(2)
-        }
-    }
+    ended(
+        asked,
+        "totals COUNT PAIRS [cut|limit-off|count-first|filter-alone]",
+    )
 }

@@ -13,6 +13,8 @@ mod bound;
 mod capi;
 #[path = "../compare.rs"]
 mod compare;
+#[path = "../ending.rs"]
+mod ending;
 #[path = "../lent.rs"]
 mod lent;
 #[path = "../operation.rs"]
@@ -31,11 +33,11 @@ mod rules;
 mod segments;
 
 use std::process::ExitCode;
-use std::time::Instant;
 
 use bound::{Bound, Met};
 use capi::marshdeck_sine;
 use compare::{equal, equal_slices, equal_states, Both, Side};
+use ending::ended;
 use fon::engine;
 use pairs::Pair;
 use random::Random;
@@ -111,20 +113,5 @@ fn asked(words: &[String]) -> Option<Result<(), String>> {
 }
 
 fn main() -> ExitCode {
-    let start = Instant::now();
-    let words: Vec<String> = std::env::args().collect();
-    match asked(&words) {
-        Some(Ok(())) => {
-            println!("in {:.0} s", start.elapsed().as_secs_f64());
-            ExitCode::SUCCESS
-        }
-        Some(Err(difference)) => {
-            eprintln!("{difference}");
-            ExitCode::from(1)
-        }
-        None => {
-            eprintln!("usage: near sine|coefficients same|K COUNT");
-            ExitCode::from(2)
-        }
-    }
+    ended(asked, "near sine|coefficients same|K COUNT")
 }
