@@ -1,4 +1,4 @@
--- What the functions' proofs share. `Parts` and `Local` are for other crates too. Assumes nothing.
-mod Turns
+-- What the functions' proofs share. It is for other crates too. Assumes nothing.
+pub mod Turns
 pub mod Parts
 pub mod Local

@@ -47,7 +47,7 @@ pub fn cubic_coef(frac: f32) -> [f32; 4]
 }
 
 // The four sums, each times its weight, added from 0.0.
-fn fold_sums(frac: f32, accum: [f32; 4]) -> f32
+pub fn fold_sums(frac: f32, accum: [f32; 4]) -> f32
     ensures { λ r. ⌜ r ≡ folded (cubicCoef frac) accum ⌝ }
 {
     let interp = cubic_coef(frac);
@@ -55,7 +55,7 @@ fn fold_sums(frac: f32, accum: [f32; 4]) -> f32
 }
 
 // One sample's four products, each added to its sum. The sums go in and out by value, as an array.
-fn spread(accum: [f32; 4], curr_in: f32, coefs: &[f32], idx: usize) -> [f32; 4]
+pub fn spread(accum: [f32; 4], curr_in: f32, coefs: &[f32], idx: usize) -> [f32; 4]
     requires { ⌜ idx + 3 < length (now coefs) ⌝ }
     ensures { λ r. ⌜ r ≡ spread accum «curr_in» (now (coefs .entry)) idx ⌝ }
 {
@@ -67,17 +67,26 @@ fn spread(accum: [f32; 4], curr_in: f32, coefs: &[f32], idx: usize) -> [f32; 4]
     ]
 }
 
-// The four sums over n samples. The Rust works out each sample's index anew, `2 + (j + 1) *
-// oversample - offset`; here it goes up by oversample.
-fn four_sums(window: &[f32], coefs: &[f32], n: usize, oversample: usize, offset: usize) -> [f32; 4]
-    requires { ⌜ n ≤ length (now window) ⌝ }
-    requires { ⌜ TapsWithin n oversample offset (length (now coefs)) ⌝ }
-    ensures { λ r. ⌜ r ≡ fourSums oversample offset n (now (coefs .entry)) (now (window .entry)) ⌝ }
+// The four sums, from those of the first `from` samples on to those of the first `to`. The Rust works
+// out each sample's index anew, `2 + (j + 1) * oversample - offset`; here it goes up by oversample.
+pub fn sums_on(
+    sums: [f32; 4],
+    window: &[f32],
+    coefs: &[f32],
+    oversample: usize,
+    offset: usize,
+    from: usize,
+    to: usize,
+) -> [f32; 4]
+    requires { ⌜ (from ≤ to) × (to ≤ length (now window)) ⌝ }
+    requires { ⌜ TapsWithin to oversample offset (length (now coefs)) ⌝ }
+    requires { ⌜ sums ≡ fourSums oversample offset from (now coefs) (now window) ⌝ }
+    ensures { λ r. ⌜ r ≡ fourSums oversample offset to (now (coefs .entry)) (now (window .entry)) ⌝ }
 {
-    let mut accum: [f32; 4] = [0.0; 4];
-    let mut idx = 2 + oversample - offset;
-    let mut j = 0;
-    while j < n {
+    let mut accum = sums;
+    let mut idx = 2 + (from + 1) * oversample - offset;
+    let mut j = from;
+    while j < to {
         let next = spread(accum, window[j], coefs, idx);
         accum = next;
         idx += oversample;
@@ -99,7 +108,7 @@ pub fn interpolate_step(
     requires { ⌜ TapsWithin n oversample offset (length (now coefs)) ⌝ }
     ensures { λ r. ⌜ r ≡ interpolated oversample offset frac n (now (coefs .entry)) (now (window .entry)) ⌝ }
 {
-    let accum = four_sums(window, coefs, n, oversample, offset);
+    let accum = sums_on([0.0; 4], window, coefs, oversample, offset, 0, n);
     fold_sums(frac, accum)
 }
 
