@@ -1,9 +1,7 @@
 // The Kaiser window, read from its table with cubic weights.
 // What it answers above 1 is not said: no caller goes there, so no index is tested at run time.
 ghost use mathlib.Core.Path.{_≡_};
-ghost use Prim.Native.Nat.{_<_, _≤_};
-ghost use lib.ListN.{getD};
-ghost use lib.Ieee.{nan};
+ghost use Prim.Native.Nat.{_≤_};
 ghost use Rattle.window.specs.Window.{NotAboveOne, kaiser, weightsAt, weightedSum, windowAt};
 
 // The window's right half in steps of 1/32, with one entry before the middle and two after the end
@@ -71,23 +69,12 @@ fn weights_at(f: f64) -> Weights
     Weights { w0, w1, w2, w3 }
 }
 
-// Entry i of the table.
-fn kaiser_at(i: usize) -> f64
-    requires { ⌜ i < 36 ⌝ }
-    ensures { λ r. ⌜ r ≡ getD kaiser i nan ⌝ }
-{
-    WINDOW_FN_KAISER_TABLE[i]
-}
-
-// The four entries from ind on, each times its weight, summed.
-fn weighted_sum(w: Weights, ind: usize) -> f64
-    requires { ⌜ ind ≤ 32 ⌝ }
+// The four entries of the table from ind on, each times its weight, summed.
+fn weighted_sum(table: &[f64; 36], w: Weights, ind: usize) -> f64
+    requires { ⌜ (now table ≡ kaiser) × (ind ≤ 32) ⌝ }
     ensures { λ r. ⌜ r ≡ weightedSum w ind ⌝ }
 {
-    w.w0 * kaiser_at(ind)
-        + w.w1 * kaiser_at(ind + 1)
-        + w.w2 * kaiser_at(ind + 2)
-        + w.w3 * kaiser_at(ind + 3)
+    w.w0 * table[ind] + w.w1 * table[ind + 1] + w.w2 * table[ind + 2] + w.w3 * table[ind + 3]
 }
 
 // The window at x. At 1.0 the last four entries are read; a NaN has the floor 0 and gives a NaN.
@@ -98,5 +85,7 @@ pub fn compute_func(x: f32) -> f64
     let y = x * WINDOW_FN_OVERSAMPLE;
     let ind = casts::floor(y);
     let f = std::num::f32_to_f64_with_nan(y - ind as f32);
-    weighted_sum(weights_at(f), ind)
+    // Copied once: an index into the constant itself would copy the whole table for each entry.
+    let table = WINDOW_FN_KAISER_TABLE;
+    weighted_sum(&table, weights_at(f), ind)
 }

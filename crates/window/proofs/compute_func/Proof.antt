@@ -1,12 +1,13 @@
--- `window::compute_func` meets its contract: the floor is at most 32 (`proofs/Bounds.antt`), so 35 is the last entry read.
+-- `window::compute_func` meets its contract: the floor is at most 32 (`proofs/Bounds.antt`), so 35 is the last entry read; each literal of the table is the f64 nearest to its decimal in `kaiserDigits`, which antt computes.
 -- Assumes nothing.
-use mathlib.Core.Path.{sym, subst}
+use mathlib.Core.Path.{refl, sym, subst}
 use Prim.Native.Nat.{ℕ, _≤_, _^_}
 use native.Mathlib.Nat.{le-trans}
 use lib.Dec.{le→leb, lit≤}
 use lib.Ieee.{ofBits, ofInt, inFloat}
 use borrow.Author.Needs.{needs}
-use Rattle.window.specs.Window.{windowAt}
+use Rattle.math.specs.Numerals.{decimal64}
+use Rattle.window.specs.Window.{kaiser, windowAt}
 use Rattle.window.proofs.Bounds.{times-32}
 use Rattle.window.proofs.compute_func.Statement.{statement}
 use Rattle.window.proofs.compute_func.Tie as tie
@@ -29,12 +30,13 @@ weights-at-requires : tie.Need-weights-at-requires
 weights-at-requires c κs = search needs
 
 weighted-sum-requires : tie.Need-weighted-sum-requires
-weighted-sum-requires c κs = index-le (c .before .before .before)
+unfolding kaiser decimal64 ofBits
+weighted-sum-requires c κs = (refl, index-le (c .before .before .before .before))
 
 returns : tie.Need-returns
 unfolding windowAt ofBits ofInt
 returns c =
-    let wide = c .before .before in
+    let wide = c .before .before .before in
     rw (c .weighted-sum .ensures, c .before .weights-at .ensures, wide .f32-to-f64-with-nan .ensures, wide .before .before .floor .ensures)
 
 pub compute-func-spec : {M : Type 1} → statement M

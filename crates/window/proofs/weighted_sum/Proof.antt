@@ -4,43 +4,56 @@ use borrow.Author.Needs.{needs}
 use Rattle.window.proofs.weighted_sum.Statement.{statement}
 use Rattle.window.proofs.weighted_sum.Tie as tie
 
-kaiser-at-requires : tie.Need-kaiser-at-requires
-kaiser-at-requires c κs = search needs
+mul-result : tie.Need-mul-result
+mul-result c = search needs
 
-add-kaiser-at : tie.Need-add-kaiser-at
-add-kaiser-at c = search needs
+element-copy-out-result : tie.Need-element-copy-out-result
+element-copy-out-result c = search needs
 
-kaiser-at-requires-2 : tie.Need-kaiser-at-requires-2
-kaiser-at-requires-2 c κs = search needs
+add-result : tie.Need-add-result
+add-result c = search needs
 
-add-kaiser-at-2 : tie.Need-add-kaiser-at-2
-add-kaiser-at-2 c = search needs
+mul-result-2 : tie.Need-mul-result-2
+mul-result-2 c = search needs
 
-kaiser-at-requires-3 : tie.Need-kaiser-at-requires-3
-kaiser-at-requires-3 c κs = search needs
+element-copy-out-result-2 : tie.Need-element-copy-out-result-2
+element-copy-out-result-2 c = search needs
 
-add-kaiser-at-3 : tie.Need-add-kaiser-at-3
-add-kaiser-at-3 c = search needs
+add-result-2 : tie.Need-add-result-2
+add-result-2 c = search needs
 
-kaiser-at-requires-4 : tie.Need-kaiser-at-requires-4
-kaiser-at-requires-4 c κs = search needs
+mul-result-3 : tie.Need-mul-result-3
+mul-result-3 c = search needs
+
+element-copy-out-result-3 : tie.Need-element-copy-out-result-3
+element-copy-out-result-3 c = search needs
+
+add-result-3 : tie.Need-add-result-3
+add-result-3 c = search needs
+
+mul-result-4 : tie.Need-mul-result-4
+mul-result-4 c = search needs
+
+element-copy-out-result-4 : tie.Need-element-copy-out-result-4
+element-copy-out-result-4 c = search needs
 
 returns : tie.Need-returns
 unfolding weightedSum
-returns c =
-    let third = c .before .before .before in
-    let first = third .before .before .before .before in
-    rw (first .kaiser-at .ensures, third .before .before .kaiser-at2 .ensures, third .kaiser-at3 .ensures, c .before .kaiser-at4 .ensures)
+returns c = rw (c .before .before .before .before .before .before .before .before .pre .0)
 
 pub weighted-sum-spec : {M : Type 1} → statement M
 weighted-sum-spec =
     tie.close
     (tie.spec
-    kaiser-at-requires
-    add-kaiser-at
-    kaiser-at-requires-2
-    add-kaiser-at-2
-    kaiser-at-requires-3
-    add-kaiser-at-3
-    kaiser-at-requires-4
+    mul-result
+    element-copy-out-result
+    add-result
+    mul-result-2
+    element-copy-out-result-2
+    add-result-2
+    mul-result-3
+    element-copy-out-result-3
+    add-result-3
+    mul-result-4
+    element-copy-out-result-4
     returns)
