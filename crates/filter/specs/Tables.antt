@@ -1,8 +1,10 @@
 -- Document 01, "Coefficients": the coordinates, each operation in f32, and the two tables. Assumes nothing.
 use Prim.Native.Nat.{ℕ, zero, suc, _+_, _*_, _/_, _%_, _^_, _≤_, _<_}
+use mathlib.Core.Path.{_≡_}
 use mathlib.Core.List.{List, [], _∷_, _++_}
+use lib.ListN.{length, getD}
 use lib.IntN.{pos, _-ℤ_}
-use lib.Ieee.{Float, binary32, ofInt}
+use lib.Ieee.{Float, nan, binary32, ofInt}
 use Rattle.math.specs.Operators.{_+ᶠ_, _-ᶠ_, _/ᶠ_}
 use Rattle.math.specs.Numerals.{asF32}
 use Rattle.sinc.specs.Sinc.{sincAt}
@@ -39,9 +41,18 @@ interpolatedTable cutoff n oversample = entries (interpolatedEntry cutoff n over
 -- what entry k asks of its numbers, m being den or oversample: f32 holds every whole number up to 2 ^ 24
 pub record EntryFits (n m k : ℕ) : Type 0 where
   pub n-some : 0 < n
+  pub m-some : 0 < m
   pub n-exact : n ≤ 2 ^ 24
   pub m-exact : m ≤ 2 ^ 24
   pub k-exact : k ≤ 2 ^ 24
+
+-- what entry k of a table f 0, f 1, .. of count entries asks where those below it are written to coefs already
+pub record NextFits (f : ℕ → Float) (n m count k : ℕ) (coefs : List Float) : Type 0 where
+  pub entry : EntryFits n m k
+  pub more : k < count
+  pub exact : count ≤ 2 ^ 24
+  pub room : k ≤ length coefs
+  pub written : (i : ℕ) → i < k → getD coefs i nan ≡ f i
 
 -- what a table of count entries asks of its numbers, and of the length of the slice that it is written to
 pub record TableFits (n m count length : ℕ) : Type 0 where

@@ -2,11 +2,12 @@
 // it was. Nothing is said of a slice that is too short, or of numbers that an f32 does not hold: no
 // caller has them.
 ghost use mathlib.Core.Path.{_≡_};
-ghost use Prim.Native.Nat.{_+_, _*_, _^_, _≤_};
+ghost use Prim.Native.Nat.{_+_, _*_, _^_, _≤_, _<_};
 ghost use lib.ListN.{length};
 ghost use lib.Seq.{paste};
-ghost use Rattle.filter.specs.Tables.{EntryFits, TableFits, directX, interpolatedX, directEntry, interpolatedEntry, directTable, interpolatedTable};
+ghost use Rattle.filter.specs.Tables.{NextFits, TableFits, directX, interpolatedX, directEntry, interpolatedEntry, directTable, interpolatedTable};
 use sinc::sinc;
+use sinc::sinc_by_mirror;
 
 // The coordinate of row i, column j of the direct table.
 fn direct_x(n: u32, den: u32, i: u32, j: u32) -> f32
@@ -25,19 +26,65 @@ fn interpolated_x(n: u32, oversample: u32, i: u32) -> f32
     (casts::small(i) - 4.0) / casts::small(oversample) - casts::small(n) / 2.0
 }
 
-// Row after row: a row has n entries.
-fn direct_entry(cutoff: f32, n: u32, den: u32, k: u32) -> f32
-    requires { ⌜ EntryFits n den k ⌝ }
-    ensures { λ r. ⌜ r ≡ directEntry cutoff n den k ⌝ }
-{
-    sinc(cutoff, direct_x(n, den, k / n, k % n), n)
+// A place in the direct table.
+struct Spot {
+    row: u32,
+    column: u32,
 }
 
-fn interpolated_entry(cutoff: f32, n: u32, oversample: u32, i: u32) -> f32
-    requires { ⌜ EntryFits n oversample i ⌝ }
+// Where the direct table has the negated coordinate of row i, column j, as far as f32 has both
+// exactly. The last column of row 0 has none: its own place stands for it. Only that the place lies
+// in the table is promised: the caller tests what it finds there.
+fn mirror_of(n: u32, den: u32, i: u32, j: u32) -> Spot
+    requires { ⌜ (i < den) × (j < n) ⌝ }
+    ensures { λ r. ⌜ (r .row < den) × (r .column < n) ⌝ }
+{
+    if 0 < i {
+        return Spot {
+            row: den - i,
+            column: n - 1 - j,
+        };
+    }
+    if j + 1 < n {
+        return Spot {
+            row: 0,
+            column: n - 2 - j,
+        };
+    }
+    Spot { row: i, column: j }
+}
+
+// Row after row: a row has n entries. Where the entry at the negated coordinate is written already,
+// it is the same.
+fn direct_entry(coefs: &[f32], cutoff: f32, n: u32, den: u32, k: u32) -> f32
+    requires { ⌜ NextFits (directEntry cutoff n den) n den (n * den) k (now coefs) ⌝ }
+    ensures { λ r. ⌜ r ≡ directEntry cutoff n den k ⌝ }
+{
+    let i = k / n;
+    let j = k % n;
+    let x = direct_x(n, den, i, j);
+    let mirror = mirror_of(n, den, i, j);
+    let m = mirror.row * n + mirror.column;
+    if m < k {
+        let y = direct_x(n, den, mirror.row, mirror.column);
+        return sinc_by_mirror(cutoff, x, n, y, coefs[m as usize]);
+    }
+    sinc(cutoff, x, n)
+}
+
+// The table is its own mirror image, end to end, as far as f32 has its coordinates exactly: so from
+// its middle on an entry may be written already.
+fn interpolated_entry(coefs: &[f32], cutoff: f32, n: u32, oversample: u32, i: u32) -> f32
+    requires { ⌜ NextFits (interpolatedEntry cutoff n oversample) n oversample (n * oversample + 8) i (now coefs) ⌝ }
     ensures { λ r. ⌜ r ≡ interpolatedEntry cutoff n oversample i ⌝ }
 {
-    sinc(cutoff, interpolated_x(n, oversample, i), n)
+    let x = interpolated_x(n, oversample, i);
+    let m = n * oversample + 8 - i;
+    if m < i {
+        let y = interpolated_x(n, oversample, m);
+        return sinc_by_mirror(cutoff, x, n, y, coefs[m as usize]);
+    }
+    sinc(cutoff, x, n)
 }
 
 // Writes the direct table: n * den entries, and no more where the slice held a longer one.
@@ -46,7 +93,7 @@ pub fn use_direct(coefs: &mut [f32], cutoff: f32, n: u32, den: u32)
     ensures { λ r. ⌜ now (coefs .exit) ≡ paste (now (coefs .entry)) 0 (directTable cutoff n den) (n * den) ⌝ }
 {
     for k in 0..n * den {
-        coefs[k as usize] = direct_entry(cutoff, n, den, k);
+        coefs[k as usize] = direct_entry(coefs, cutoff, n, den, k);
     }
 }
 
@@ -56,6 +103,6 @@ pub fn not_use_direct(coefs: &mut [f32], cutoff: f32, n: u32, oversample: u32)
     ensures { λ r. ⌜ now (coefs .exit) ≡ paste (now (coefs .entry)) 0 (interpolatedTable cutoff n oversample) (n * oversample + 8) ⌝ }
 {
     for i in 0..n * oversample + 8 {
-        coefs[i as usize] = interpolated_entry(cutoff, n, oversample, i);
+        coefs[i as usize] = interpolated_entry(coefs, cutoff, n, oversample, i);
     }
 }

@@ -6,3 +6,4 @@ pub mod Real
 pub mod Nan
 pub mod Sign
 pub mod Bounded
+pub mod Negated

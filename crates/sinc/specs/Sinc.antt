@@ -1,8 +1,9 @@
 -- Document 01, "Coefficients": one coefficient. An f32 stands for the same number as an f64, so nothing is written where one is widened.
 -- Assumes nothing.
-use Prim.Native.Nat.{ℕ}
-use mathlib.Core.Bool.{Bool, cond}
-use lib.Ieee.{Float, lt}
+use Prim.Native.Nat.{ℕ, _<_}
+use mathlib.Core.Path.{_≡_}
+use mathlib.Core.Bool.{Bool, false, cond}
+use lib.Ieee.{Float, lt, isNan}
 use Rattle.casts.specs.Narrowed.{narrowed}
 use Rattle.math.specs.Numerals.{nought, asF64, decimal64}
 use Rattle.math.specs.Operators.{_*ᵈ_, _/ᵈ_, _*ᶠ_}
@@ -34,3 +35,10 @@ sincAt cutoff x n =
     cond (lt (magnitude x) (decimal64 6 1)) cutoff
     (cond (far x n) nought
     (windowedSinc cutoff x n))
+
+-- what is asked where the coefficient at y is known: neither coordinate is a NaN, whose bits no test may read
+pub record MirrorFits (cutoff x : Float) (n : ℕ) (y known : Float) : Type 0 where
+  pub n-some : 0 < n
+  pub x-real : isNan x ≡ false
+  pub y-real : isNan y ≡ false
+  pub is-known : known ≡ sincAt cutoff y n

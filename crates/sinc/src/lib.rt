@@ -3,7 +3,7 @@
 ghost use mathlib.Core.Path.{_≡_};
 ghost use Prim.Native.Nat.{_<_};
 ghost use Rattle.window.specs.Window.{NotAboveOne};
-ghost use Rattle.sinc.specs.Sinc.{placeAt, windowedSinc, sincAt};
+ghost use Rattle.sinc.specs.Sinc.{MirrorFits, placeAt, windowedSinc, sincAt};
 use window::compute_func;
 
 // The f64 nearest pi.
@@ -42,4 +42,16 @@ pub fn sinc(cutoff: f32, x: f32, n: u32) -> f32
         return 0.0;
     }
     windowed_sinc(cutoff, x, n)
+}
+
+// The coefficient at x, where that at y is known. The sinc is even, so where x is -y, bit for bit,
+// it is the known one, and nothing is worked out.
+pub fn sinc_by_mirror(cutoff: f32, x: f32, n: u32, y: f32, known: f32) -> f32
+    requires { ⌜ MirrorFits cutoff x n y known ⌝ }
+    ensures { λ r. ⌜ r ≡ sincAt cutoff x n ⌝ }
+{
+    if f32::to_bits(x) == f32::to_bits(-y) {
+        return known;
+    }
+    sinc(cutoff, x, n)
 }

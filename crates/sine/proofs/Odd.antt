@@ -5,21 +5,8 @@ use mathlib.Core.Bool.{Bool, true, false, not, cond}
 use lib.Ieee.{Float, nan, inf, fin, neg, add, sub, mul, div, rem, lt, le, ofInt}
 use Rattle.math.specs.Numerals.{nought, decimal64}
 use Rattle.math.specs.Sign.{magnitude, timesSign}
+use Rattle.math.proofs.Negated.{neg-neg, magnitude-neg}
 use Rattle.sine.specs.Sine.{C, reduced, coefficient, horner, series, sineAt}
-
-neg-neg : (v : Float) → neg (neg v) ≡ v
-unfolding neg
-neg-neg nan = refl
-neg-neg (inf true) = refl
-neg-neg (inf false) = refl
-neg-neg (fin true m e) = refl
-neg-neg (fin false m e) = refl
-
-magnitude-neg : (a : Float) → magnitude (neg a) ≡ magnitude a
-unfolding magnitude neg
-magnitude-neg nan = refl
-magnitude-neg (inf s) = refl
-magnitude-neg (fin s m e) = refl
 
 -- the sign of -a flips what the sign of a leaves
 other-sign : (s : Bool) (v : Float) → cond (not s) (neg v) v ≡ neg (cond s (neg v) v)

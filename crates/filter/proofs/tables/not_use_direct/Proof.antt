@@ -5,7 +5,7 @@ use native.Mathlib.Omega.{arith}
 use borrow.Author.Needs.{needs}
 use Rattle.filter.specs.Tables.{interpolatedTable}
 use Rattle.history.proofs.Pasted.{Pasted, starts, ends}
-use Rattle.filter.proofs.Entries.{stored, entry-fits}
+use Rattle.filter.proofs.Entries.{stored, next-fits}
 use Rattle.filter.proofs.tables.not_use_direct.Statement.{statement}
 use Rattle.filter.proofs.tables.not_use_direct.Tie as tie
 
@@ -25,9 +25,8 @@ loop-holds : tie.Need-loop-holds Inv-loop μ-loop
 loop-holds c = starts _ _ _ _
 
 interpolated-entry-requires : tie.Need-interpolated-entry-requires Inv-loop μ-loop
-interpolated-entry-requires c κs =
-    let start = c .before .before .before in
-    entry-fits (start .args .n) (start .args .oversample) _ _ (c .before .loop .i) (start .pre) (omega arith) (omega arith)
+unfolding interpolatedTable
+interpolated-entry-requires c κs = let at = c .before .before in next-fits _ _ _ _ _ (at .before .before .pre) (omega arith) (at .loop .inv) (omega arith)
 
 cast-coefs : tie.Need-cast-coefs Inv-loop μ-loop
 cast-coefs c = search needs
@@ -46,7 +45,7 @@ loop-less c = omega arith
 
 loop-again : tie.Need-loop-again Inv-loop μ-loop
 unfolding interpolatedTable
-loop-again c = let at = c .before .before in stored _ _ _ (at .loop .inv) (c .interpolated-entry .ensures) (omega arith) (at .before .before .pre .room)
+loop-again c = let at = c .before .before .before in stored _ _ _ (at .loop .inv) (c .interpolated-entry .ensures) (omega arith) (at .before .before .pre .room)
 
 same-length : tie.Need-same-length Inv-loop μ-loop
 same-length c = c .before .loop .inv .same

@@ -6,7 +6,7 @@ use native.Mathlib.Omega.{arith}
 use borrow.Author.Needs.{needs}
 use Rattle.filter.specs.Tables.{directTable}
 use Rattle.history.proofs.Pasted.{Pasted, starts, ends}
-use Rattle.filter.proofs.Entries.{stored, entry-fits}
+use Rattle.filter.proofs.Entries.{stored, next-fits}
 use Rattle.filter.proofs.tables.use_direct.Statement.{statement}
 use Rattle.filter.proofs.tables.use_direct.Tie as tie
 
@@ -23,9 +23,8 @@ loop-holds : tie.Need-loop-holds Inv-loop μ-loop
 loop-holds c = starts _ _ _ _
 
 direct-entry-requires : tie.Need-direct-entry-requires Inv-loop μ-loop
-direct-entry-requires c κs =
-    let start = c .before .before .before in
-    entry-fits (start .args .n) (start .args .den) _ _ (c .before .loop .k) (start .pre) (le-refl _) (omega arith)
+unfolding directTable
+direct-entry-requires c κs = let at = c .before .before in next-fits _ _ _ _ _ (at .before .before .pre) (le-refl _) (at .loop .inv) (omega arith)
 
 cast-coefs : tie.Need-cast-coefs Inv-loop μ-loop
 cast-coefs c = search needs
@@ -44,7 +43,7 @@ loop-less c = omega arith
 
 loop-again : tie.Need-loop-again Inv-loop μ-loop
 unfolding directTable
-loop-again c = let at = c .before .before in stored _ _ _ (at .loop .inv) (c .direct-entry .ensures) (omega arith) (at .before .before .pre .room)
+loop-again c = let at = c .before .before .before in stored _ _ _ (at .loop .inv) (c .direct-entry .ensures) (omega arith) (at .before .before .pre .room)
 
 same-length : tie.Need-same-length Inv-loop μ-loop
 same-length c = c .before .loop .inv .same
