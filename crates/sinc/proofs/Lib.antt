@@ -1,4 +1,4 @@
--- Laws that belong to no one function. `Place` and `Mirrored` are for other crates too. Assumes nothing.
+-- Laws that belong to no one function. `Place` is for other crates too. Assumes nothing.
 pub mod Place
 mod NearFar
-pub mod Mirrored
+mod Mirrored
