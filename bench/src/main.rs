@@ -11,10 +11,12 @@ extern crate fon_stepped as stepped;
 
 mod cases;
 mod engines;
+mod growth;
 #[cfg(libsamplerate)]
 mod libsamplerate;
 mod measure;
 mod ours;
+mod piped;
 mod same;
 #[cfg(soxr)]
 mod soxr;
@@ -36,14 +38,20 @@ const QUICK: Effort = Effort {
     least: 6e6,
 };
 
+const TEN_HOURS: usize = 36_000;
+const TEN_MINUTES: usize = 600;
+
 fn main() -> ExitCode {
     let words: Vec<String> = std::env::args().skip(1).collect();
     let words: Vec<&str> = words.iter().map(String::as_str).collect();
     let outcome = match words[..] {
         ["run"] => tables::print(LONG),
         ["run", "--quick"] => tables::print(QUICK),
+        ["piped", seconds] => piped::print(seconds),
+        ["growth"] => growth::print(LONG, TEN_HOURS),
+        ["growth", "--quick"] => growth::print(QUICK, TEN_MINUTES),
         _ => {
-            eprintln!("usage: bench run [--quick]");
+            eprintln!("usage: bench run [--quick]|piped SECONDS|growth [--quick]");
             return ExitCode::from(2);
         }
     };

@@ -14,16 +14,16 @@ use crate::speexdsp::Speex;
 
 const REFUSED: &str = "refused";
 
-fn ratio(spread: Spread) -> String {
+pub fn ratio(spread: Spread) -> String {
     let Spread { low, median, high } = spread;
     format!("{median:.2} ({low:.2} to {high:.2})")
 }
 
-fn row(cells: &[String]) {
+pub fn row(cells: &[String]) {
     println!("| {} |", cells.join(" | "));
 }
 
-fn head(cells: &[String]) {
+pub fn head(cells: &[String]) {
     row(cells);
     println!("|{}", "---|".repeat(cells.len()));
 }
@@ -43,9 +43,14 @@ fn grouped(number: f64) -> String {
 
 // Feeds a stream with the noise, block after block, which starts again at its end. The output's entries are written here, before
 // anything is timed.
-fn blocks<'a>(mut stream: Box<dyn Stream>, samples: &'a [f32], room: usize) -> Work<'a> {
+pub fn blocks<'a>(
+    mut stream: Box<dyn Stream>,
+    samples: &'a [f32],
+    block: usize,
+    room: usize,
+) -> Work<'a> {
     let mut out = vec![1.0; room];
-    let mut chunks = samples.chunks_exact(BLOCK).cycle();
+    let mut chunks = samples.chunks_exact(block).cycle();
     Box::new(move |steps| {
         let chunks = chunks.by_ref().take(steps);
         chunks
@@ -70,7 +75,7 @@ fn streams(
     let mut works: Vec<Work> = opened
         .into_iter()
         .flatten()
-        .map(|stream| blocks(stream, samples, room))
+        .map(|stream| blocks(stream, samples, BLOCK, room))
         .collect();
     let mut times = in_turn(&mut works, effort).into_iter();
     refused
@@ -198,18 +203,27 @@ pub fn print(effort: Effort) -> Result<(), String> {
     let samples = noise();
     change_noticed(&CASES[0], &samples, BLOCK)?;
     println!("\n## Blocks of 1,024\n");
-    println!("Each call is offered what is left of a block of 1,024 samples, with room for all that it leads to.\n");
+    println!(
+        "Each call is offered what is left of a block of 1,024 samples, with room for all that it leads to. Cleared before: history, \
+         coefficients and output have been written, and the streams have run. Cleared between blocks and rounds: nothing.\n"
+    );
     say_compared(streams_table(&Room::Enough, &samples, effort)?);
     println!("\n## Room for one output\n");
     println!(
-        "One call for each output: room 1, and what is left of a block of 1,024 samples is offered each time.\n"
+        "One call for each output: room 1, and what is left of a block of 1,024 samples is offered each time. Cleared: as above.\n"
     );
     say_compared(streams_table(&Room::One, &samples, effort)?);
     println!("\n## Setting a rate\n");
-    println!("A new state and its first rate.\n");
+    println!(
+        "A new state and its first rate. Ours is lent the same two buffers each time, not cleared before; it writes all of their \
+         entries. The Rust and SpeexDSP get theirs from the allocator and give them back within the time.\n"
+    );
     set_rate_table(effort);
     println!("\n## A call's fixed cost\n");
-    println!("An accepted call with nothing to do: one sample offered, no room, nothing read and nothing written.\n");
+    println!(
+        "An accepted call with nothing to do: one sample is offered, since an empty input is refused, and there is no room, so nothing \
+         is read and nothing written. What is left is the check of the state and the way through C. Cleared: nothing.\n"
+    );
     fixed_table(&samples, effort);
     Ok(())
 }
