@@ -29,16 +29,20 @@ type Open = fn(u32, u32) -> Option<Box<dyn Stream>>;
 pub struct Engine {
     pub name: &'static str,
     pub open: Open,
+    // Whether it reads no more than it needs. One that does not, with room 1 keeps more and more samples back.
+    pub reads_as_needed: bool,
 }
 
 pub const RUST: Engine = Engine {
     name: "the Rust",
     open: |source, target| Some(Box::new(Kept::new(source, target))),
+    reads_as_needed: true,
 };
 
 pub const OURS: Engine = Engine {
     name: "ours",
     open: |source, target| Some(Box::new(Ours::new(source, target))),
+    reads_as_needed: true,
 };
 
 // The Rust is the first: the others are told as ratios to it.
@@ -50,21 +54,25 @@ pub fn all() -> Vec<Engine> {
         Engine {
             name: "SpeexDSP 8",
             open: speexdsp::open,
+            reads_as_needed: true,
         },
         #[cfg(libsamplerate)]
         Engine {
             name: "libsamplerate medium",
             open: |source, target| libsamplerate::open(libsamplerate::MEDIUM, source, target),
+            reads_as_needed: true,
         },
         #[cfg(libsamplerate)]
         Engine {
             name: "libsamplerate best",
             open: |source, target| libsamplerate::open(libsamplerate::BEST, source, target),
+            reads_as_needed: true,
         },
         #[cfg(soxr)]
         Engine {
             name: "soxr HQ",
             open: soxr::open,
+            reads_as_needed: false,
         },
     ]
 }

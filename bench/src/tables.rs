@@ -102,8 +102,18 @@ enum Room {
     One,
 }
 
+impl Room {
+    // Whether an engine's outputs keep step with what it reads.
+    fn suits(&self, engine: &Engine) -> bool {
+        matches!(self, Room::Enough) || engine.reads_as_needed
+    }
+}
+
 fn streams_table(room: &Room, samples: &[f32], effort: Effort) -> Result<Compared, String> {
-    let engines = all();
+    let engines: Vec<Engine> = all()
+        .into_iter()
+        .filter(|engine| room.suits(engine))
+        .collect();
     let mut cells: Vec<String> = ["case", "rates", "n, kernel"].map(String::from).to_vec();
     cells.extend(engines[1..].iter().map(|engine| engine.name.to_string()));
     cells.extend(["ours, ns an output", "ours, outputs a second"].map(String::from));
@@ -210,7 +220,8 @@ pub fn print(effort: Effort) -> Result<(), String> {
     say_compared(streams_table(&Room::Enough, &samples, effort)?);
     println!("\n## Room for one output\n");
     println!(
-        "One call for each output: room 1, and what is left of a block of 1,024 samples is offered each time. Cleared: as above.\n"
+        "One call for each output: room 1, and what is left of a block of 1,024 samples is offered each time. Cleared: as above. soxr \
+         is left out: with room 1 it reads more than its outputs use, at 1000/999 twice as much, and keeps it.\n"
     );
     say_compared(streams_table(&Room::One, &samples, effort)?);
     println!("\n## Setting a rate\n");
