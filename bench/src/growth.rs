@@ -128,6 +128,7 @@ pub fn print(effort: Effort, longest: usize) -> Result<(), String> {
     println!("panel\tat\tengine\tns");
     lengths_of_filter(&samples, effort)?;
     sizes_of_block(&samples, effort)?;
+    same(&RECORDED, &samples, BLOCK, RECORDED.room(BLOCK))?;
     lengths_of_recording(&samples, effort, longest);
     Ok(())
 }

@@ -3,7 +3,7 @@
 use std::io;
 
 use crate::measure::Spread;
-use crate::tables::{head, ratio, row};
+use crate::tables::{head, ratio, row, say};
 
 // Of one run: processor time in s, largest memory in KB.
 #[derive(Clone, Copy)]
@@ -51,12 +51,12 @@ pub fn print(seconds: &str) -> Result<(), String> {
         .map(|(o, r)| o.time / r.time)
         .collect();
     println!("\n## A file through a pipe\n");
-    println!(
+    say(&format!(
         "{seconds} s of 48,000 Hz, noise, pulled to 47,952 Hz: a pipe into the program, a pipe out of it; {} rounds, the two in turn. \
          The Rust reads blocks of 1,024 samples for `pipe`, and ends with `flush`. Processor time of the program and of the system \
-         for it, with its start. Neither clears a buffer between blocks.\n",
+         for it, with its start. Neither clears a buffer between blocks.",
         ratios.len()
-    );
+    ));
     head(&["", "processor time", "largest memory"].map(String::from));
     measured("ours, `conform`", &ours);
     measured("the Rust", &rust);

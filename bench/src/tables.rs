@@ -28,6 +28,22 @@ pub fn head(cells: &[String]) {
     println!("|{}", "---|".repeat(cells.len()));
 }
 
+// A paragraph, in lines as long as those of our pages.
+pub fn say(words: &str) {
+    let mut line = String::new();
+    for word in words.split(' ') {
+        if !line.is_empty() && line.len() + 1 + word.len() > 130 {
+            println!("{line}");
+            line.clear();
+        }
+        if !line.is_empty() {
+            line.push(' ');
+        }
+        line.push_str(word);
+    }
+    println!("{line}\n");
+}
+
 // 1234567 as 1,234,567.
 fn grouped(number: f64) -> String {
     let digits = format!("{number:.0}");
@@ -144,12 +160,13 @@ fn streams_table(room: &Room, samples: &[f32], effort: Effort) -> Result<Compare
 
 fn say_compared(compared: Compared) {
     println!();
-    println!(
-        "The same bits: in this run ours and the Rust with document 01's sine (one line of `math.rs` changed) were given the same \
-         calls; coefficients, history, consumed, written and all outputs were equal, {} outputs in {} calls.",
+    say(&format!(
+        "The same bits: before the time ours and the Rust with document 01's sine (one line of `math.rs` changed) were given the same \
+         calls, 65,536 samples in each case; coefficients, history, consumed, written and all outputs were equal, {} outputs in {} \
+         calls. The timed calls go on with the same samples and are not compared.",
         grouped(compared.outputs as f64),
         grouped(compared.calls as f64)
-    );
+    ));
 }
 
 // The time of a new state and its first rate.
@@ -212,28 +229,29 @@ fn fixed_table(samples: &[f32], effort: Effort) {
 pub fn print(effort: Effort) -> Result<(), String> {
     let samples = noise();
     change_noticed(&CASES[0], &samples, BLOCK)?;
-    println!("\n## Blocks of 1,024\n");
-    println!(
-        "Each call is offered what is left of a block of 1,024 samples, with room for all that it leads to. Cleared before: history, \
-         coefficients and output have been written, and the streams have run. Cleared between blocks and rounds: nothing.\n"
+    println!("## Blocks of 1,024\n");
+    say(
+        "Each call is offered what is left of a block of 1,024 samples, with room for all that it leads to. Buffers: all entries of \
+         history, coefficients and output were written before the time begins, and the streams have run; nothing is cleared then, nor \
+         between blocks and rounds.",
     );
     say_compared(streams_table(&Room::Enough, &samples, effort)?);
-    println!("\n## Room for one output\n");
-    println!(
-        "One call for each output: room 1, and what is left of a block of 1,024 samples is offered each time. Cleared: as above. soxr \
-         is left out: with room 1 it reads more than its outputs use, at 1000/999 twice as much, and keeps it.\n"
+    println!("## Room for one output\n");
+    say(
+        "One call for each output: room 1, and what is left of a block of 1,024 samples is offered each time. Buffers: as above. soxr \
+         is left out: with room 1 it reads more than its outputs use, at 1000/999 twice as much, and keeps it.",
     );
     say_compared(streams_table(&Room::One, &samples, effort)?);
-    println!("\n## Setting a rate\n");
-    println!(
-        "A new state and its first rate. Ours is lent the same two buffers each time, not cleared before; it writes all of their \
-         entries. The Rust and SpeexDSP get theirs from the allocator and give them back within the time.\n"
+    println!("## Setting a rate\n");
+    say(
+        "A new state and its first rate. Buffers: ours is lent the same two each time, not cleared before; it writes all of their \
+         entries. The Rust gets new ones, cleared, SpeexDSP gets its own, and both give them back within the time.",
     );
     set_rate_table(effort);
     println!("\n## A call's fixed cost\n");
-    println!(
+    say(
         "An accepted call with nothing to do: one sample is offered, since an empty input is refused, and there is no room, so nothing \
-         is read and nothing written. What is left is the check of the state and the way through C. Cleared: nothing.\n"
+         is read and nothing written. What is left is the check of the state and the way through C. Buffers: as above.",
     );
     fixed_table(&samples, effort);
     Ok(())
