@@ -5,12 +5,12 @@
 --     shared-first, shared     the history's samples d to n - 1 go to a window
 --     part-within              and the table holds what they meet
 -- Assumes nothing.
-use mathlib.Core.Path.{_≡_, refl, sym, ap, _∙_}
+use mathlib.Core.Path.{_≡_, sym, ap, _∙_}
 use mathlib.Core.List.{List}
 use Prim.Native.Nat.{ℕ, zero, suc, _+_, _-_, _*_, _≤_, _<_}
-use native.Mathlib.Nat.{add-mul, one-mul, add-suc, add-zero, add-assoc, mul-le-mul-right, zero-mul}
+use native.Mathlib.Nat.{add-mul, one-mul, add-suc, add-zero, add-assoc, mul-le-mul-right}
 use native.Mathlib.Omega.{arith}
-use lib.ListN.{length, drop, length-drop}
+use lib.ListN.{drop}
 use lib.Seq.{getD-drop, drop-drop}
 use lib.Ieee.{Float, nan}
 use Rattle.kernel.specs.Sums.{at}
@@ -20,8 +20,15 @@ use Rattle.abreast.specs.Sums.{EntriesWithin, PartWithin, spreadOn}
 -- a part of the table, from t on
 spread-part : (s : List Float) (x : Float) (coefs : List Float) (t i : ℕ) → spread s x (drop t coefs) i ≡ spread s x coefs (t + i)
 spread-part s x coefs t i =
-    rw (getD-drop t coefs i nan, getD-drop t coefs (i + 1) nan, getD-drop t coefs (i + 2) nan, getD-drop t coefs (i + 3) nan,
-    add-assoc t i 1, add-assoc t i 2, add-assoc t i 3)
+    rw (
+      getD-drop t coefs i nan,
+      getD-drop t coefs (i + 1) nan,
+      getD-drop t coefs (i + 2) nan,
+      getD-drop t coefs (i + 3) nan,
+      add-assoc t i 1,
+      add-assoc t i 2,
+      add-assoc t i 3,
+    )
 
 -- the first sample's coefficients
 pub first-tap : (oversample offset : ℕ) → 2 + oversample - offset ≡ tap oversample offset 0

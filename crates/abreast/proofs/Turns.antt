@@ -1,20 +1,21 @@
--- What one turn of a loop adds to four outputs. Assumes nothing.
+-- What one turn of a loop adds to four outputs, and how its index and its count go on. Assumes nothing.
 use mathlib.Core.Path.{_≡_, refl, sym, ap, _∙_}
-use mathlib.Core.List.{List, [], _∷_}
-use Prim.Native.Nat.{ℕ, _+_, _*_}
+use mathlib.Core.List.{List}
+use Prim.Native.Nat.{ℕ, _+_, _-_, _*_, _^_, _≤_, _<_}
+use native.Mathlib.Nat.{add-mul, one-mul, mul-le-mul-right}
 use native.Mathlib.Numerals.{add-one}
 use native.Mathlib.Omega.{arith}
 use lib.Ieee.{Float}
+use mir.Syntax.{w64}
+use mir.Val.{Fits}
+use mir.Facts.{fits-le}
 use Rattle.kernel.specs.Sums.{at}
 use Rattle.kernel.specs.Interpolated.{spread}
 use Rattle.kernel.proofs.Turns.{sum-turn}
 use Rattle.abreast.specs.Rows.{fourRows, addTap}
-use Rattle.abreast.specs.Sums.{spreadOn}
-
--- four results, each known
-pub four-is : {a b c d a' b' c' d' : Float} → a ≡ a' → b ≡ b' → c ≡ c' → d ≡ d'
-    → _≡_ {A = List Float} (a ∷ b ∷ c ∷ d ∷ []) (a' ∷ b' ∷ c' ∷ d' ∷ [])
-four-is e f g h = rw (e, f, g, h)
+use Rattle.abreast.specs.Sums.{spreadOn, fourSpread}
+use Rattle.abreast.specs.declared.Sums.{Sums}
+use Rattle.abreast.proofs.Four.{four-is}
 
 -- one more tap of a row
 pub rows-turn : (row w0 w1 w2 w3 : List Float) (j : ℕ) {s r : List Float} → s ≡ fourRows j row w0 w1 w2 w3
@@ -44,3 +45,33 @@ pub spread-turn : (before : List Float) (oversample j : ℕ) (window table : Lis
 unfolding spreadOn
 spread-turn before oversample j window table h e g =
     rw (g, h, e) (ap (λ (k : ℕ). spreadOn before k oversample window table) (sym (add-one j)))
+
+-- the last sample is added to all four
+pub spread-ends : (s : Sums) (oversample : ℕ) (window ta tb tc td : List Float) {j count : ℕ} {x y z u : List Float} → j ≡ count
+    → x ≡ spreadOn (s .a) j oversample window ta
+    → y ≡ spreadOn (s .b) j oversample window tb
+    → z ≡ spreadOn (s .c) j oversample window tc
+    → u ≡ spreadOn (s .d) j oversample window td
+    → _≡_ {A = Sums} (record { a = x; b = y; c = z; d = u }) (fourSpread s count oversample window ta tb tc td)
+spread-ends s oversample window ta tb tc td i e f g h = rw (← i, e, f, g, h)
+
+-- the index, oversample on a turn: it stands at the next sample's coefficients, is a usize, and sample j's four entries lie within a part
+pub index-turn : (oversample j : ℕ) {i : ℕ} → i ≡ j * oversample → i + oversample ≡ (j + 1) * oversample
+index-turn oversample j e = omega (arith, add-mul j 1 oversample, one-mul oversample)
+
+pub index-fits : (oversample : ℕ) {i j count : ℕ} → i ≡ j * oversample → j < count → count * oversample < 2 ^ 62 → Fits w64 (i + oversample)
+index-fits oversample {i} {j} {count} e l h =
+    record { fits = omega (arith, index-turn oversample j e, mul-le-mul-right {m = j + 1} {n = count} oversample (omega arith)) }
+
+pub entries-at : {i k size : ℕ} → i ≡ k → k + 3 < size → i + 3 < size
+entries-at e h = omega arith
+
+-- a count that goes up to n: the next is within n and is a usize, and fewer are left
+pub counts-on : {j n : ℕ} → j < n → j + 1 ≤ n
+counts-on l = omega arith
+
+pub count-fits : {j n : ℕ} → j < n → Fits w64 n → Fits w64 (j + 1)
+count-fits l f = fits-le (counts-on l) f
+
+pub left-falls : {j n : ℕ} → j < n → n - (j + 1) < n - j
+left-falls l = omega arith

@@ -11,7 +11,6 @@ use Rattle.kernel.specs.declared.Phase.{Phase}
 use Rattle.kernel.specs.declared.Phase.the-variants.{Direct, Interpolated}
 use Rattle.abreast.specs.declared.Parts.{Parts}
 use Rattle.abreast.specs.declared.Shifts.{Shifts}
-use Rattle.abreast.specs.declared.Offsets.{Offsets}
 use Rattle.abreast.specs.Rows.{fourRows}
 use Rattle.abreast.specs.Sums.{FourTapsWithin}
 use Rattle.abreast.specs.Four.{partsOf, OneRow, AllInterpolated, FourReach, fourSteps, fourInterpolated}

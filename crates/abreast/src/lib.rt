@@ -385,7 +385,14 @@ pub fn step_four(
         let b = shifts.b;
         let c = shifts.c;
         let d = shifts.d;
-        return four_rows(&coefs[row..], window, &window[b..], &window[c..], &window[d..], n);
+        return four_rows(
+            &coefs[row..],
+            window,
+            &window[b..],
+            &window[c..],
+            &window[d..],
+            n,
+        );
     }
     if all_interpolated(pp, qq, rr, ss) {
         if shifts.d < n {

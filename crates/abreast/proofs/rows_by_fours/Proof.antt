@@ -1,12 +1,12 @@
 -- `abreast::rows_by_fours` meets its contract. The invariant: the sums are those of the first j taps, four to a turn. The measure is how many
 -- turns are left. Assumes nothing.
 use mathlib.Core.Path.{_≡_, refl}
-use Prim.Native.Nat.{_≤_, _+_, _*_, _-_}
+use Prim.Native.Nat.{_≤_, _*_, _-_}
 use native.Mathlib.Omega.{arith}
 use lib.Ieee.{ofBits}
 use denote.Ref.{now}
 use Rattle.kernel.specs.Sums.{sumTo}
-use Rattle.abreast.specs.Rows.{fourRows, RowsWithin}
+use Rattle.abreast.specs.Rows.{fourRows}
 use Rattle.abreast.proofs.Turns.{rows-four-turns}
 use Rattle.abreast.proofs.rows_by_fours.Statement.{statement}
 use Rattle.abreast.proofs.rows_by_fours.Tie as tie
@@ -59,7 +59,7 @@ loop-again c =
       omega arith,
       omega arith,
       rows-four-turns (now (a .row)) (now (a .w0)) (now (a .w1)) (now (a .w2)) (now (a .w3)) (h .loop .j) (h .loop .inv .2)
-      (one .add-tap .ensures) (c .before .before .add-tap2 .ensures) (c .before .add-tap3 .ensures) (c .add-tap4 .ensures),
+          (one .add-tap .ensures) (c .before .before .add-tap2 .ensures) (c .before .add-tap3 .ensures) (c .add-tap4 .ensures),
     )
 
 returns : tie.Need-returns Inv-loop μ-loop
