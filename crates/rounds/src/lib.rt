@@ -3,9 +3,12 @@
 // A round asks that its numbers fit the lent slices, which a state that belongs together always
 // does; nothing is tested at run time. Where the samples come from, and how many rounds a call runs,
 // is decided above.
+mod runs;
+
 use kernel::Phase;
 use rates::Kernel;
 use rates::Setting;
+use runs::make_outputs;
 ghost use mathlib.Core.Path.{_≡_};
 ghost use Prim.Native.Nat.{ℕ, _+_, _^_, _<_, _≤_};
 ghost use lib.ListN.{length};
@@ -13,7 +16,7 @@ ghost use Rattle.timeline.specs.Numbers.{next};
 ghost use Rattle.timeline.specs.Samples.{output, playRound};
 ghost use Rattle.rates.specs.Rated.{rateWith};
 ghost use Rattle.rounds.specs.Output.{phaseOf, weighOf};
-ghost use Rattle.rounds.specs.Rounds.{placeOf, turnOf, Playable, RoundFits, Wrote, Filled};
+ghost use Rattle.rounds.specs.Rounds.{placeOf, turnOf, Playable, RoundFits, Wrote};
 
 // How many samples were read, and how many outputs were made. Two types, so that one is never taken
 // for the other.
@@ -78,35 +81,6 @@ fn advance(setting: Setting, place: Place) -> Place
         };
     }
     Place { position, phase }
-}
-
-// How a run of outputs ended: the place of the next one, and how many there are.
-struct Made {
-    place: Place,
-    written: usize,
-}
-
-// Makes outputs while the room lasts and the position is before the samples' end; at or past it none
-// is made. The rest of the room stays as it was.
-fn make_outputs(
-    setting: Setting,
-    place: Place,
-    mem: &[f32],
-    coefs: &[f32],
-    in_len: usize,
-    out: &mut [f32],
-) -> Made
-    requires { ⌜ RoundFits setting (placeOf place) «in_len» (length (now mem)) (length (now coefs)) ⌝ }
-    ensures { λ r. ⌜ ((alloc : ℕ) → Filled (weighOf setting (now (coefs .entry))) (rateWith setting alloc) «in_len» (placeOf place) (now (mem .entry)) (r .written) (placeOf (r .place)) (now (out .entry)) (now (out .exit))) ⌝ }
-{
-    let mut place = place;
-    let mut i = 0;
-    while i < out.len() && place.position < in_len {
-        out[i] = output_at(setting, place, mem, coefs);
-        place = advance(setting, place);
-        i += 1;
-    }
-    Made { place, written: i }
 }
 
 // One round over the in_len samples that stand at entry n - 1 of the history on: the outputs, then

@@ -1,9 +1,9 @@
 -- One output and a run of outputs: where they lead, and how many a round makes. Assumes nothing.
-use mathlib.Core.Path.{_≡_, refl, _∙_, ap}
+use mathlib.Core.Path.{_≡_, refl, sym, _∙_, ap, ap₂}
 use mathlib.Core.Logic.{_⊎_, inl, inr}
 use mathlib.Core.Bool.{Bool, true, false}
 use Prim.Native.Nat.{ℕ, zero, suc, _+_, _-_, _*_, _/_, _%_, _≤_, _<_}
-use native.Mathlib.Nat.{add-assoc, zero-add, suc-add, div-add-mod, div-add-mod', mod-lt, not-suc-le-zero}
+use native.Mathlib.Nat.{add-assoc, zero-add, suc-add, div-add-mod, div-add-mod', mod-lt, mul-add-div, mul-add-mod-self-left, div-eq-of-lt, mod-eq-of-lt, not-suc-le-zero}
 use native.Mathlib.Omega.{arith}
 use lib.Arith.{digits-div, digits-mod}
 use lib.Dec.{ltb}
@@ -32,6 +32,15 @@ lifted-none p = rw (zero-add (p .position))
 pub lifted-twice : (a b : ℕ) (p : Place) → lifted (a + b) p ≡ lifted a (lifted b p)
 lifted-twice a b p = rw (add-assoc a b (p .position))
 
+-- whole samples and phase are quotient and remainder
+whole-part : {den : ℕ} (q f h x : ℕ) → 0 < den → f < den → den * q + f ≡ den * h + x → q ≡ h + x / den
+whole-part {den} q f h x d s e =
+    omega (arith, mul-add-div d q f, mul-add-div d h x, div-eq-of-lt s, ap (λ (y : ℕ). y / den) e)
+
+rest-part : {den : ℕ} (q f h x : ℕ) → f < den → den * q + f ≡ den * h + x → f ≡ x % den
+rest-part {den} q f h x s e =
+    sym (mod-eq-of-lt s) ∙ sym (mul-add-mod-self-left den q f) ∙ ap (λ (y : ℕ). y % den) e ∙ mul-add-mod-self-left den h x
+
 module _ (r : Rate) where
   pub next-lifted : (c : ℕ) (p : Place) → next r (lifted c p) ≡ lifted c (next r p)
   next-lifted c p = rw (add-assoc c (p .position))
@@ -59,6 +68,36 @@ module _ (r : Rate) where
   pub ahead-phase : 0 < r .den → (k : ℕ) (p : Place) → p .phase < r .den → ahead r k p .phase < r .den
   ahead-phase d zero p h = h
   ahead-phase d (suc k) p h = ahead-phase d k (next r p) (mod-lt (p .phase + r .num) d)
+
+  -- the place after k outputs, told at once
+  pub ahead-is : 0 < r .den → (k : ℕ) (p : Place) → p .phase < r .den
+      → ahead r k p ≡ record { position = p .position + (p .phase + k * r .num) / r .den; phase = (p .phase + k * r .num) % r .den }
+  ahead-is d k p h =
+      let q = ahead r k p in
+      let e : r .den * q .position + q .phase ≡ r .den * p .position + (p .phase + k * r .num) = omega (arith, ahead-reach k p) in
+      let s : q .phase < r .den = ahead-phase d k p h in
+      ap₂ (λ (x y : ℕ). record { position = x; phase = y })
+      (whole-part (q .position) (q .phase) (p .position) (p .phase + k * r .num) d s e)
+      (rest-part (q .position) (q .phase) (p .position) (p .phase + k * r .num) s e)
+
+  -- den outputs lead num samples on, to the same phase
+  pub ahead-class : 0 < r .den → (c m : ℕ) (p : Place) → p .phase < r .den
+      → ahead r (c + m * r .den) p ≡ record { position = ahead r c p .position + m * r .num; phase = ahead r c p .phase }
+  ahead-class d c m p h =
+      let q = ahead r c p in
+      let s : q .phase < r .den = ahead-phase d c p h in
+      let e : q .phase + m * r .den * r .num ≡ m * r .num * r .den + q .phase = omega arith in
+      ahead-add c (m * r .den) p ∙ ahead-is d (m * r .den) q s ∙ rw (e, digits-div (m * r .num) s, digits-mod (m * r .num) s)
+
+  -- no output stands before an earlier one
+  ahead-on : (k : ℕ) (p : Place) → p .position ≤ ahead r k p .position
+  ahead-on zero p = omega arith
+  ahead-on (suc k) p = omega (arith, ahead-on k (next r p))
+
+  pub ahead-later : (j k : ℕ) (p : Place) → j ≤ k → ahead r j p .position ≤ ahead r k p .position
+  ahead-later j k p h =
+      let e : k ≡ j + (k - j) = omega arith in
+      rw (e, ahead-add j (k - j) p) (ahead-on (k - j) (ahead r j p))
 
   -- a round's clauses, by facts instead of tests
   pub made-none : (i room : ℕ) (p : Place) → i ≤ p .position → made r i room p ≡ 0
@@ -97,6 +136,19 @@ module _ (r : Rate) where
       elim (below-or-not (p .position) i) [
         | inl l ↦ rw (made-more i room p l) (made-ends i room (next r p) (omega (arith, made-more i room p l)))
         | inr g ↦ rw (made-none i (suc room) p g) g
+      ]
+
+  -- k is the count of a round, if it fits the room, all outputs before it are made, and with room left the next one is not
+  pub made-is : (i room k : ℕ) (p : Place) → k ≤ room → ((j : ℕ) → j < k → ahead r j p .position < i)
+      → (k < room → i ≤ ahead r k p .position) → made r i room p ≡ k
+  made-is i room k p fits below ends =
+      elim (below-or-not (made r i room p) k) [
+        | inl l ↦ omega (arith, below (made r i room p) l, made-ends i room p (omega arith))
+        | inr g ↦
+            elim (below-or-not k (made r i room p)) [
+              | inl l ↦ omega (arith, made-below i room p k l, ends (omega (arith, made-fits i room p)))
+              | inr same ↦ omega arith
+            ]
       ]
 
   -- the code's carry: num/den whole samples and num%den den-ths are added; den of them make one sample more

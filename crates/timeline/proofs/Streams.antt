@@ -4,7 +4,7 @@ use mathlib.Core.Path.{_≡_, refl, sym, _∙_, ap, ap₂}
 use mathlib.Core.Logic.{inl, inr}
 use mathlib.Core.List.{List, _∷_, _++_}
 use Prim.Native.Nat.{ℕ, zero, suc, _+_, _-_, _*_, _/_, _%_, _≤_, _<_}
-use native.Mathlib.Nat.{add-zero, suc-add, add-suc, mul-add-div, mul-add-mod-self-left, div-eq-of-lt, mod-eq-of-lt, not-suc-le-zero, le-of-suc-le-suc}
+use native.Mathlib.Nat.{add-zero, zero-add, suc-add, add-suc, not-suc-le-zero, le-of-suc-le-suc}
 use native.Mathlib.Omega.{arith}
 use lib.ListN.{length, take, drop, replicate, getD, length-append, length-replicate}
 use lib.Seq.{drop-drop, take-append-add, drop-append-add, take-append-le, take-at, drop-at}
@@ -12,28 +12,13 @@ use Rattle.timeline.specs.Numbers.{Rate, Place, Fit, fresh, ahead}
 use Rattle.timeline.specs.Samples.{outputs}
 use Rattle.timeline.specs.Recording.{Offer, stream, closed, streamPosition, streamOutput, streamOutputs, recording}
 use Rattle.timeline.specs.Laws.{DifferWithin, Misses}
-use Rattle.timeline.proofs.Places.{ahead-last, ahead-reach, ahead-phase}
+use Rattle.timeline.proofs.Places.{ahead-last, ahead-is}
 use Rattle.timeline.proofs.Parts.{same-window, take-replicate, take-append, drop-append}
 use Rattle.timeline.proofs.Cuttings.{Plays, begins, calls-play}
 
--- whole samples and phase are quotient and remainder
-whole-part : {den : ℕ} (q f h x : ℕ) → 0 < den → f < den → den * q + f ≡ den * h + x → q ≡ h + x / den
-whole-part {den} q f h x d s e =
-    omega (arith, mul-add-div d q f, mul-add-div d h x, div-eq-of-lt s, ap (λ (y : ℕ). y / den) e)
-
-rest-part : {den : ℕ} (q f h x : ℕ) → f < den → den * q + f ≡ den * h + x → f ≡ x % den
-rest-part {den} q f h x s e =
-    sym (mod-eq-of-lt s) ∙ sym (mul-add-mod-self-left den q f) ∙ ap (λ (y : ℕ). y % den) e ∙ mul-add-mod-self-left den h x
-
 -- where output k stands
 pub ahead-fresh : (r : Rate) → Fit r → (k : ℕ) → ahead r k (fresh r) ≡ record { position = streamPosition r k; phase = k * r .num % r .den }
-ahead-fresh r fit k =
-    let q = ahead r k (fresh r) in
-    let e : r .den * q .position + q .phase ≡ r .den * (r .n / 2) + k * r .num = omega (arith, ahead-reach r k (fresh r)) in
-    let s : q .phase < r .den = ahead-phase r (fit .den) k (fresh r) (fit .den) in
-    ap₂ (λ (x y : ℕ). record { position = x; phase = y })
-    (whole-part (q .position) (q .phase) (r .n / 2) (k * r .num) (fit .den) s e)
-    (rest-part (q .position) (q .phase) (r .n / 2) (k * r .num) s e)
+ahead-fresh r fit k = ahead-is r (fit .den) k (fresh r) (fit .den) ∙ rw (zero-add (k * r .num))
 
 module _ {A : Type 0} (silence : A) (r : Rate) where
   -- the stream below the silence and a

@@ -4,7 +4,7 @@ use mathlib.Core.Logic.{⊎-elim}
 use Prim.Native.Nat.{min}
 use native.Mathlib.Omega.{arith}
 use borrow.Author.Needs.{needs}
-use Rattle.rounds.proofs.Filling.{round-wrote}
+use Rattle.rounds.proofs.Running.{round-wrote}
 use Rattle.rounds.proofs.process_native.Statement.{statement}
 use Rattle.rounds.proofs.process_native.Tie as tie
 
