@@ -12,23 +12,23 @@ use mir.Facts.{fits-le}
 use Rattle.kernel.specs.Sums.{at}
 use Rattle.kernel.specs.Interpolated.{spread}
 use Rattle.kernel.proofs.Turns.{sum-turn}
-use Rattle.abreast.specs.Rows.{fourRows, addTap}
+use Rattle.abreast.specs.Rows.{fourRows, fourTaps}
 use Rattle.abreast.specs.Sums.{spreadOn, fourSpread}
 use Rattle.abreast.specs.declared.Sums.{Sums}
 use Rattle.abreast.proofs.Four.{four-is}
 
 -- one more tap of a row
 pub rows-turn : (row w0 w1 w2 w3 : List Float) (j : ℕ) {s r : List Float} → s ≡ fourRows j row w0 w1 w2 w3
-    → r ≡ addTap s row w0 w1 w2 w3 j → r ≡ fourRows (j + 1) row w0 w1 w2 w3
+    → r ≡ fourTaps s row w0 w1 w2 w3 j → r ≡ fourRows (j + 1) row w0 w1 w2 w3
 rows-turn row w0 w1 w2 w3 j {s} e g =
     g
-    ∙ ap (λ (l : List Float). addTap l row w0 w1 w2 w3 j) e
+    ∙ ap (λ (l : List Float). fourTaps l row w0 w1 w2 w3 j) e
     ∙ four-is (sum-turn _ j refl) (sum-turn _ j refl) (sum-turn _ j refl) (sum-turn _ j refl)
 
 -- four more
 pub rows-four-turns : (row w0 w1 w2 w3 : List Float) (j : ℕ) {s a b c d : List Float} → s ≡ fourRows j row w0 w1 w2 w3
-    → a ≡ addTap s row w0 w1 w2 w3 j → b ≡ addTap a row w0 w1 w2 w3 (j + 1) → c ≡ addTap b row w0 w1 w2 w3 (j + 2)
-    → d ≡ addTap c row w0 w1 w2 w3 (j + 3) → d ≡ fourRows (j + 4) row w0 w1 w2 w3
+    → a ≡ fourTaps s row w0 w1 w2 w3 j → b ≡ fourTaps a row w0 w1 w2 w3 (j + 1) → c ≡ fourTaps b row w0 w1 w2 w3 (j + 2)
+    → d ≡ fourTaps c row w0 w1 w2 w3 (j + 3) → d ≡ fourRows (j + 4) row w0 w1 w2 w3
 rows-four-turns row w0 w1 w2 w3 j e one two three four =
     let a = rows-turn row w0 w1 w2 w3 j e one in
     let b = rows-turn row w0 w1 w2 w3 (j + 1) a two in

@@ -10,8 +10,8 @@ abbrev pub fourRows : ℕ → List Float → List Float → List Float → List 
 fourRows n row w0 w1 w2 w3 = directSum n row w0 ∷ directSum n row w1 ∷ directSum n row w2 ∷ directSum n row w3 ∷ []
 
 -- the four sums s with the products of tap j added to them
-abbrev pub addTap : List Float → List Float → List Float → List Float → List Float → List Float → ℕ → List Float
-addTap s row w0 w1 w2 w3 j =
+abbrev pub fourTaps : List Float → List Float → List Float → List Float → List Float → List Float → ℕ → List Float
+fourTaps s row w0 w1 w2 w3 j =
     (at s 0 +ᶠ at row j *ᶠ at w0 j)
     ∷ (at s 1 +ᶠ at row j *ᶠ at w1 j)
     ∷ (at s 2 +ᶠ at row j *ᶠ at w2 j)

@@ -12,7 +12,7 @@ ghost use mathlib.Core.Path.{_≡_};
 ghost use mathlib.Core.Bool.{true};
 ghost use Prim.Native.Nat.{_+_, _*_, _^_, _≤_, _<_};
 ghost use lib.ListN.{length, drop};
-ghost use Rattle.abreast.specs.Rows.{fourRows, addTap, RowsWithin};
+ghost use Rattle.abreast.specs.Rows.{fourRows, fourTaps, RowsWithin};
 ghost use Rattle.abreast.specs.Sums.{EntriesWithin, PartWithin, fourSpread, WindowsWithin, FourTapsWithin, SumsAt, AllSums};
 ghost use Rattle.abreast.specs.Four.{partsOf, OneRow, AllInterpolated, fourInterpolated, fourSteps, FourReach};
 
@@ -24,7 +24,7 @@ pub struct Shifts {
 }
 
 // One coefficient times a sample of each window, added to the four sums.
-fn add_tap(
+fn four_taps(
     sums: [f32; 4],
     row: &[f32],
     w0: &[f32],
@@ -34,7 +34,7 @@ fn add_tap(
     j: usize,
 ) -> [f32; 4]
     requires { ⌜ RowsWithin (j + 1) (length (now row)) (length (now w0)) (length (now w1)) (length (now w2)) (length (now w3)) ⌝ }
-    ensures { λ r. ⌜ r ≡ addTap sums (now (row .entry)) (now (w0 .entry)) (now (w1 .entry)) (now (w2 .entry)) (now (w3 .entry)) j ⌝ }
+    ensures { λ r. ⌜ r ≡ fourTaps sums (now (row .entry)) (now (w0 .entry)) (now (w1 .entry)) (now (w2 .entry)) (now (w3 .entry)) j ⌝ }
 {
     let coef = row[j];
     [
@@ -62,10 +62,10 @@ fn rows_by_fours(
     let mut j = 0;
     let mut turn = 0;
     while turn < quarters {
-        let one = add_tap(sums, row, w0, w1, w2, w3, j);
-        let two = add_tap(one, row, w0, w1, w2, w3, j + 1);
-        let three = add_tap(two, row, w0, w1, w2, w3, j + 2);
-        let four = add_tap(three, row, w0, w1, w2, w3, j + 3);
+        let one = four_taps(sums, row, w0, w1, w2, w3, j);
+        let two = four_taps(one, row, w0, w1, w2, w3, j + 1);
+        let three = four_taps(two, row, w0, w1, w2, w3, j + 2);
+        let four = four_taps(three, row, w0, w1, w2, w3, j + 3);
         sums = four;
         j += 4;
         turn += 1;
@@ -83,7 +83,7 @@ fn four_rows(row: &[f32], w0: &[f32], w1: &[f32], w2: &[f32], w3: &[f32], n: usi
     let mut sums = by_fours;
     let mut j = quarters * 4;
     while j < n {
-        let next = add_tap(sums, row, w0, w1, w2, w3, j);
+        let next = four_taps(sums, row, w0, w1, w2, w3, j);
         sums = next;
         j += 1;
     }

@@ -7,7 +7,7 @@ use native.Mathlib.Numerals.{add-one}
 use lib.Ieee.{Float}
 use Rattle.math.specs.Numerals.{nought}
 use Rattle.kernel.specs.Sums.{at, sumTo}
-use Rattle.lanes.specs.Abreast.{spot, laneSum, sixteens, thirtyTwos, addTap}
+use Rattle.lanes.specs.Inner.{spot, laneSum, sixteens, thirtyTwos, addTap}
 use Rattle.lanes.specs.declared.Lanes.{Lanes}
 use Rattle.lanes.specs.declared.Wide.{Wide}
 

@@ -14,7 +14,7 @@ use lib.Ieee.{Float, nan}
 use Rattle.math.proofs.Closest.{below-or-not}
 use Rattle.kernel.specs.Sums.{at}
 use Rattle.lanes.specs.Layout.{Woven, LayoutFits}
-use Rattle.lanes.specs.Abreast.{RowFits, RowLaid}
+use Rattle.lanes.specs.Inner.{RowFits, RowLaid}
 
 -- the first k samples of a row stand in it; the next is sample t, for entry i
 pub record RowLaying (before after window : List Float) (start from num i t : ℕ) : Type 0 where

@@ -3,7 +3,7 @@ use mathlib.Core.Path.{_≡_, sym, ap, _∙_}
 use Prim.Native.Nat.{ℕ, _+_, _*_, _-_, _/_, _%_, _≤_, _<_}
 use native.Mathlib.Nat.{add-assoc, add-mul, one-mul, zero-mul, mod-lt, div-add-mod', div-eq-of-lt-le, mul-le-mul-right, lt-of-mul-lt-mul-right, le-of-mul-le-mul-right}
 use native.Mathlib.Omega.{arith}
-use Rattle.lanes.specs.Abreast.{Spotted, TapsFit}
+use Rattle.lanes.specs.Inner.{Spotted, TapsFit}
 use Rattle.lanes.specs.declared.Spot.{Spot}
 use Rattle.lanes.proofs.Rows.{row-end}
 

@@ -19,7 +19,7 @@ use Rattle.kernel.specs.declared.Phase.{Phase}
 use Rattle.kernel.specs.declared.Phase.the-variants.{Direct}
 use Rattle.lanes.specs.Layout.{Woven}
 use Rattle.lanes.specs.Class.{ClassFits, Classed}
-use Rattle.lanes.specs.Abreast.{spot, laneSum, TapsFit, Strewn, along, StrandFits, LanesFit, laneOf, Filled}
+use Rattle.lanes.specs.Inner.{spot, laneSum, TapsFit, Strewn, along, StrandFits, LanesFit, laneOf, Begun}
 use Rattle.lanes.specs.declared.Strand.{Strand}
 use Rattle.lanes.specs.declared.Weave.{Weave}
 use Rattle.lanes.proofs.Strewing.{strewn-none, strewn-store, strewn-same, strewn-on, strewn-all, strewn-then}
@@ -65,14 +65,14 @@ column-to {w} f h = omega (arith, strand-next (f .strand) h .1, f .rows, mul-com
 
 -- ---- outputs after outputs
 
-pub filled-none : (before : List Float) (w : Weave) (s : Strand) (f : ℕ → Float) → s .from < 2 ^ 62 → Filled before before w s s f
+pub filled-none : (before : List Float) (w : Weave) (s : Strand) (f : ℕ → Float) → s .from < 2 ^ 62 → Begun before before w s s f
 filled-none before w s f h =
     record { m = 0; strand = along-none (w .den) s; from-to = h; out = strewn-none (s .from) (w .den) (w .count) before f }
 
 -- the next m outputs at once
 pub filled-some : {before after : List Float} {w : Weave} {s t : Strand} {f : ℕ → Float} {end out : ℕ} (m : ℕ) → 0 < m → m ≤ 32
     → StrandFits w s end out → s .from < w .count → out < 2 ^ 61 → t ≡ along (w .den) m s
-    → Strewn before after (s .from) (w .den) (w .count) m f → (s .from < t .from) × Filled before after w s t f
+    → Strewn before after (s .from) (w .den) (w .count) m f → (s .from < t .from) × Begun before after w s t f
 filled-some {w = w} {s = s} {t = t} m some most f h low e p =
     let moved : t .from ≡ s .from + m * w .den = ap (λ (v : Strand). v .from) e in
     let least : 1 * w .den ≤ m * w .den = mul-le-mul-right (w .den) some in
@@ -83,8 +83,8 @@ filled-some {w = w} {s = s} {t = t} m some most f h low e p =
 
 -- some after others
 filled-on : {before between after : List Float} {w : Weave} {s t u : Strand} {f g : ℕ → Float} → 0 < w .den
-    → Filled before between w s t f → Filled between after w t u g → ((m l : ℕ) → t ≡ along (w .den) m s → g l ≡ f (m + l))
-    → Filled before after w s u f
+    → Begun before between w s t f → Begun between after w t u g → ((m l : ℕ) → t ≡ along (w .den) m s → g l ≡ f (m + l))
+    → Begun before after w s u f
 filled-on {w = w} {s = s} {t = t} some p q h =
     record {
       m = p .m + q .m;
@@ -97,8 +97,8 @@ filled-on {w = w} {s = s} {t = t} some p q h =
 
 -- one output more
 pub filled-step : {before after : List Float} {w : Weave} {s t u : Strand} {f : ℕ → Float} {v : Float} → 0 < w .den
-    → Filled before after w s t f → t .from < w .count → t .from < length after → u ≡ along (w .den) 1 t → u .from < 2 ^ 62
-    → ((m : ℕ) → t ≡ along (w .den) m s → v ≡ f m) → Filled before (set after (t .from) v) w s u f
+    → Begun before after w s t f → t .from < w .count → t .from < length after → u ≡ along (w .den) 1 t → u .from < 2 ^ 62
+    → ((m : ℕ) → t ≡ along (w .den) m s → v ≡ f m) → Begun before (set after (t .from) v) w s u f
 filled-step {w = w} {s = s} {t = t} some p below h e low g =
     record {
       m = p .m + 1;
@@ -118,13 +118,13 @@ lane-along : (w : Weave) (coefs x : List Float) (s : Strand) {t : Strand} (m l :
 lane-along w coefs x s m l e = rw (e, add-assoc (s .column) m l)
 
 pub lanes-on : {before between after : List Float} {w : Weave} {s t u : Strand} (coefs x : List Float) → 0 < w .den
-    → Filled before between w s t (laneOf w coefs x s) → Filled between after w t u (laneOf w coefs x t)
-    → Filled before after w s u (laneOf w coefs x s)
+    → Begun before between w s t (laneOf w coefs x s) → Begun between after w t u (laneOf w coefs x t)
+    → Begun before after w s u (laneOf w coefs x s)
 lanes-on {w = w} {s = s} coefs x some p q = filled-on some p q (lane-along w coefs x s)
 
 -- ---- a whole class
 
-pub filled-all : {before after : List Float} {w : Weave} {s t : Strand} {f : ℕ → Float} → Filled before after w s t f
+pub filled-all : {before after : List Float} {w : Weave} {s t : Strand} {f : ℕ → Float} → Begun before after w s t f
     → w .count ≤ t .from → Classed before after (s .from) (w .den) (w .count) f
 filled-all {w = w} {s = s} {t = t} p h = strewn-all (s .from) (w .den) (w .count) (p .out) (omega (arith, ap (λ (v : Strand). v .from) (p .strand)))
 
@@ -186,7 +186,7 @@ class-steps w phase oversample coefs window shift from c =
 pub class-lanes : {w : Weave} {shift from size long out : ℕ} → ClassFits w shift from size long out
     → (phase : Phase) (row oversample : ℕ) (coefs window : List Float) {x before between after : List Float} {t : Strand}
     → phase ≡ Direct row → Woven x window (w .num) (w .stride) (w .reach)
-    → Filled before between w (strandOf (w .num) shift from) t (laneOf w (drop (row * w .n) coefs) x (strandOf (w .num) shift from))
+    → Begun before between w (strandOf (w .num) shift from) t (laneOf w (drop (row * w .n) coefs) x (strandOf (w .num) shift from))
     → Classed between after (t .from) (w .den) (w .count) (λ m. stepOf (Direct row) (w .n) oversample coefs (drop ((t .column + m) * w .num + t .row) window))
     → Classed before after from (w .den) (w .count) (λ m. stepOf phase (w .n) oversample coefs (drop (shift + m * w .num) window))
 unfolding stepOf

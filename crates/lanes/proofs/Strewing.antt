@@ -17,7 +17,7 @@ use lib.Ieee.{Float, nan}
 use Rattle.math.proofs.Closest.{below-or-not}
 use Rattle.kernel.specs.Sums.{at}
 use Rattle.lanes.specs.Class.{Classed}
-use Rattle.lanes.specs.Abreast.{fours, sixteens, Strewn}
+use Rattle.lanes.specs.Inner.{fours, sixteens, Strewn}
 use Rattle.lanes.specs.declared.Lanes.{Lanes}
 
 module _ (from by count : ℕ) where

@@ -1,4 +1,4 @@
 -- Outputs of one phase, worked out side by side. Assumes nothing.
 pub mod Layout
 pub mod Class
-pub mod Abreast
+pub mod Inner

@@ -15,7 +15,7 @@ ghost use Rattle.kernel.specs.Sums.{at};
 ghost use Rattle.kernel.specs.Step.{stepOf, Reaches};
 ghost use Rattle.lanes.specs.Layout.{Woven, LayoutFits, Strided};
 ghost use Rattle.lanes.specs.Class.{ClassFits, Classed};
-ghost use Rattle.lanes.specs.Abreast.{RowFits, RowLaid, Spotted, laneSum, sixteens, thirtyTwos, addFour, addTap, TapsFit, Strewn, along, StrandFits, LanesFit, laneOf, Filled};
+ghost use Rattle.lanes.specs.Inner.{RowFits, RowLaid, Spotted, laneSum, sixteens, thirtyTwos, addFour, addTap, TapsFit, Strewn, along, StrandFits, LanesFit, laneOf, Begun};
 
 // How many entries a layout has at most, with the 32 after its rows.
 pub const ROOM: usize = 2048;
@@ -260,7 +260,7 @@ struct Strand {
 }
 
 // The strand m outputs on.
-fn ahead(s: Strand, m: usize, den: usize) -> Strand
+fn along(s: Strand, m: usize, den: usize) -> Strand
     requires { ⌜ (s .column + m < 2 ^ 63) × (s .from + m * den < 2 ^ 63) ⌝ }
     ensures { λ r. ⌜ r ≡ along den m s ⌝ }
 {
@@ -274,7 +274,7 @@ fn ahead(s: Strand, m: usize, den: usize) -> Strand
 // The next sixteen outputs, as far as they lie below count.
 fn make_sixteen(x: &[f32], coefs: &[f32], weave: Weave, strand: Strand, out: &mut [f32]) -> Strand
     requires { ⌜ LanesFit weave strand (length (now coefs)) (length (now x)) (length (now out)) × (strand .from < weave .count) ⌝ }
-    ensures { λ r. ⌜ (strand .from < r .from) × Filled (now (out .entry)) (now (out .exit)) weave strand r (laneOf weave (now (coefs .entry)) (now (x .entry)) strand) ⌝ }
+    ensures { λ r. ⌜ (strand .from < r .from) × Begun (now (out .entry)) (now (out .exit)) weave strand r (laneOf weave (now (coefs .entry)) (now (x .entry)) strand) ⌝ }
 {
     let s = sixteen(
         x,
@@ -286,7 +286,7 @@ fn make_sixteen(x: &[f32], coefs: &[f32], weave: Weave, strand: Strand, out: &mu
         strand.column,
     );
     put_sixteen(out, strand.from, weave.den, s, weave.count);
-    ahead(strand, 16, weave.den)
+    along(strand, 16, weave.den)
 }
 
 // The next thirty-two.
@@ -298,7 +298,7 @@ fn make_thirty_two(
     out: &mut [f32],
 ) -> Strand
     requires { ⌜ LanesFit weave strand (length (now coefs)) (length (now x)) (length (now out)) × (strand .from < weave .count) ⌝ }
-    ensures { λ r. ⌜ (strand .from < r .from) × Filled (now (out .entry)) (now (out .exit)) weave strand r (laneOf weave (now (coefs .entry)) (now (x .entry)) strand) ⌝ }
+    ensures { λ r. ⌜ (strand .from < r .from) × Begun (now (out .entry)) (now (out .exit)) weave strand r (laneOf weave (now (coefs .entry)) (now (x .entry)) strand) ⌝ }
 {
     let s = thirty_two(
         x,
@@ -319,7 +319,7 @@ fn make_thirty_two(
         far,
         weave.count,
     );
-    ahead(strand, 32, weave.den)
+    along(strand, 32, weave.den)
 }
 
 // By thirty-twos while more than sixteen are left.
@@ -331,7 +331,7 @@ fn fill_thirty_twos(
     out: &mut [f32],
 ) -> Strand
     requires { ⌜ LanesFit weave strand (length (now coefs)) (length (now x)) (length (now out)) ⌝ }
-    ensures { λ r. ⌜ Filled (now (out .entry)) (now (out .exit)) weave strand r (laneOf weave (now (coefs .entry)) (now (x .entry)) strand) ⌝ }
+    ensures { λ r. ⌜ Begun (now (out .entry)) (now (out .exit)) weave strand r (laneOf weave (now (coefs .entry)) (now (x .entry)) strand) ⌝ }
 {
     let mut strand = strand;
     while strand.from + 16 * weave.den < weave.count {
@@ -343,7 +343,7 @@ fn fill_thirty_twos(
 // By sixteens while more than two are left: fewer are quicker made one by one.
 fn fill_sixteens(x: &[f32], coefs: &[f32], weave: Weave, strand: Strand, out: &mut [f32]) -> Strand
     requires { ⌜ LanesFit weave strand (length (now coefs)) (length (now x)) (length (now out)) ⌝ }
-    ensures { λ r. ⌜ Filled (now (out .entry)) (now (out .exit)) weave strand r (laneOf weave (now (coefs .entry)) (now (x .entry)) strand) ⌝ }
+    ensures { λ r. ⌜ Begun (now (out .entry)) (now (out .exit)) weave strand r (laneOf weave (now (coefs .entry)) (now (x .entry)) strand) ⌝ }
 {
     let mut strand = strand;
     while strand.from + 2 * weave.den < weave.count {
@@ -355,7 +355,7 @@ fn fill_sixteens(x: &[f32], coefs: &[f32], weave: Weave, strand: Strand, out: &m
 // By lanes, all but two at most.
 fn fill_lanes(x: &[f32], coefs: &[f32], weave: Weave, strand: Strand, out: &mut [f32]) -> Strand
     requires { ⌜ LanesFit weave strand (length (now coefs)) (length (now x)) (length (now out)) ⌝ }
-    ensures { λ r. ⌜ Filled (now (out .entry)) (now (out .exit)) weave strand r (laneOf weave (now (coefs .entry)) (now (x .entry)) strand) ⌝ }
+    ensures { λ r. ⌜ Begun (now (out .entry)) (now (out .exit)) weave strand r (laneOf weave (now (coefs .entry)) (now (x .entry)) strand) ⌝ }
 {
     let rest = fill_thirty_twos(x, coefs, weave, strand, out);
     fill_sixteens(x, coefs, weave, rest, out)
@@ -394,7 +394,7 @@ fn step_rest(
     while strand.from < weave.count {
         let k = strand.from;
         out[k] = step_at(phase, window, coefs, oversample, weave, strand);
-        strand = ahead(strand, 1, weave.den);
+        strand = along(strand, 1, weave.den);
     }
 }
 

@@ -24,8 +24,8 @@ mul-j c = omega arith
 loop-holds : tie.Need-loop-holds Inv-loop μ-loop
 loop-holds c = (omega arith, c .rows-by-fours .ensures)
 
-add-tap-requires : tie.Need-add-tap-requires Inv-loop μ-loop
-add-tap-requires c κs = omega arith
+four-taps-requires : tie.Need-four-taps-requires Inv-loop μ-loop
+four-taps-requires c κs = omega arith
 
 add-j : tie.Need-add-j Inv-loop μ-loop
 add-j c = omega arith
@@ -38,7 +38,7 @@ loop-again c =
     let h = c .before .before in
     let a = h .before .before .before .before .before .before .before .args in (
       omega arith,
-      rows-turn (now (a .row)) (now (a .w0)) (now (a .w1)) (now (a .w2)) (now (a .w3)) (h .loop .j) (h .loop .inv .1) (c .add-tap .ensures),
+      rows-turn (now (a .row)) (now (a .w0)) (now (a .w1)) (now (a .w2)) (now (a .w3)) (h .loop .j) (h .loop .inv .1) (c .four-taps .ensures),
     )
 
 returns : tie.Need-returns Inv-loop μ-loop
@@ -55,7 +55,7 @@ four-rows-spec =
     rows-by-fours-requires
     mul-j
     loop-holds
-    add-tap-requires
+    four-taps-requires
     add-j
     loop-less
     loop-again

@@ -21,26 +21,26 @@ loop-holds : tie.Need-loop-holds Inv-loop μ-loop
 unfolding sumTo ofBits
 loop-holds c = (omega arith, omega arith, refl)
 
-add-tap-requires : tie.Need-add-tap-requires Inv-loop μ-loop
-add-tap-requires c κs = omega arith
+four-taps-requires : tie.Need-four-taps-requires Inv-loop μ-loop
+four-taps-requires c κs = omega arith
 
-add-add-tap : tie.Need-add-add-tap Inv-loop μ-loop
-add-add-tap c = omega arith
+add-four-taps : tie.Need-add-four-taps Inv-loop μ-loop
+add-four-taps c = omega arith
 
-add-tap-requires-2 : tie.Need-add-tap-requires-2 Inv-loop μ-loop
-add-tap-requires-2 c κs = omega arith
+four-taps-requires-2 : tie.Need-four-taps-requires-2 Inv-loop μ-loop
+four-taps-requires-2 c κs = omega arith
 
-add-add-tap-2 : tie.Need-add-add-tap-2 Inv-loop μ-loop
-add-add-tap-2 c = omega arith
+add-four-taps-2 : tie.Need-add-four-taps-2 Inv-loop μ-loop
+add-four-taps-2 c = omega arith
 
-add-tap-requires-3 : tie.Need-add-tap-requires-3 Inv-loop μ-loop
-add-tap-requires-3 c κs = omega arith
+four-taps-requires-3 : tie.Need-four-taps-requires-3 Inv-loop μ-loop
+four-taps-requires-3 c κs = omega arith
 
-add-add-tap-3 : tie.Need-add-add-tap-3 Inv-loop μ-loop
-add-add-tap-3 c = omega arith
+add-four-taps-3 : tie.Need-add-four-taps-3 Inv-loop μ-loop
+add-four-taps-3 c = omega arith
 
-add-tap-requires-4 : tie.Need-add-tap-requires-4 Inv-loop μ-loop
-add-tap-requires-4 c κs = omega arith
+four-taps-requires-4 : tie.Need-four-taps-requires-4 Inv-loop μ-loop
+four-taps-requires-4 c κs = omega arith
 
 add-j : tie.Need-add-j Inv-loop μ-loop
 add-j c = omega arith
@@ -59,7 +59,7 @@ loop-again c =
       omega arith,
       omega arith,
       rows-four-turns (now (a .row)) (now (a .w0)) (now (a .w1)) (now (a .w2)) (now (a .w3)) (h .loop .j) (h .loop .inv .2)
-          (one .add-tap .ensures) (c .before .before .add-tap2 .ensures) (c .before .add-tap3 .ensures) (c .add-tap4 .ensures),
+          (one .four-taps .ensures) (c .before .before .four-taps2 .ensures) (c .before .four-taps3 .ensures) (c .four-taps4 .ensures),
     )
 
 returns : tie.Need-returns Inv-loop μ-loop
@@ -75,13 +75,13 @@ rows-by-fours-spec =
     Inv-loop
     μ-loop
     loop-holds
-    add-tap-requires
-    add-add-tap
-    add-tap-requires-2
-    add-add-tap-2
-    add-tap-requires-3
-    add-add-tap-3
-    add-tap-requires-4
+    four-taps-requires
+    add-four-taps
+    four-taps-requires-2
+    add-four-taps-2
+    four-taps-requires-3
+    add-four-taps-3
+    four-taps-requires-4
     add-j
     add-turn
     loop-less

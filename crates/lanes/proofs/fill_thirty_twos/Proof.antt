@@ -4,13 +4,13 @@ use Prim.Native.Nat.{_-_}
 use native.Mathlib.Omega.{arith}
 use denote.Ref.{now}
 use lib.ListN.{length}
-use Rattle.lanes.specs.Abreast.{LanesFit, laneOf, Filled}
+use Rattle.lanes.specs.Inner.{LanesFit, laneOf, Begun}
 use Rattle.lanes.proofs.Strands.{lanes-along, filled-none, lanes-on}
 use Rattle.lanes.proofs.fill_thirty_twos.Statement.{statement}
 use Rattle.lanes.proofs.fill_thirty_twos.Tie as tie
 
 abbrev Inv-loop : tie.InvT-loop
-Inv-loop x coefs weave out₀ strand₀ out strand = Filled out₀ out weave strand₀ strand (laneOf weave coefs x strand₀)
+Inv-loop x coefs weave out₀ strand₀ out strand = Begun out₀ out weave strand₀ strand (laneOf weave coefs x strand₀)
 
 abbrev μ-loop : tie.MeasureT-loop
 μ-loop x coefs weave out₀ strand₀ out strand = weave .count - strand .from

@@ -11,8 +11,8 @@ sixteen-requires c κs = let start = c .before .before .before in taps-fit (star
 put-sixteen-requires : tie.Need-put-sixteen-requires
 put-sixteen-requires c κs = let start = c .before .before .before .before .before in omega (arith, start .pre .0 .strand)
 
-ahead-requires : tie.Need-ahead-requires
-ahead-requires c κs =
+along-requires : tie.Need-along-requires
+along-requires c κs =
     let start = c .before .before .before .before .before .before .before .before in
     let p = start .pre in
     omega (arith, column-to (p .0) (p .1), p .0 .strand .from-to, p .0 .strand .den-to)
@@ -25,8 +25,8 @@ returns c =
     let put = c .before .before .before in
     let start = c .before .before .before .before .before .before .before .before .before in
     let p = start .pre in
-    filled-some 16 (omega arith) (omega arith) (p .0 .strand) (p .1) (omega arith) (c .ahead .ensures) (put .put-sixteen .ensures _ (c .before .before .before .before .before .sixteen .ensures))
+    filled-some 16 (omega arith) (omega arith) (p .0 .strand) (p .1) (omega arith) (c .along .ensures) (put .put-sixteen .ensures _ (c .before .before .before .before .before .sixteen .ensures))
 
 pub make-sixteen-spec : {M : Type 1} → statement M
 make-sixteen-spec =
-    tie.close (tie.spec sixteen-requires put-sixteen-requires ahead-requires same-length returns)
+    tie.close (tie.spec sixteen-requires put-sixteen-requires along-requires same-length returns)

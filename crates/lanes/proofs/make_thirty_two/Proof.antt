@@ -2,7 +2,7 @@
 use mathlib.Core.Path.{refl}
 use native.Mathlib.Omega.{arith}
 use denote.Ref.{now}
-use Rattle.lanes.specs.Abreast.{laneOf}
+use Rattle.lanes.specs.Inner.{laneOf}
 use Rattle.lanes.proofs.Adding.{wide-parts}
 use Rattle.lanes.proofs.Strewing.{strewn-on}
 use Rattle.lanes.proofs.Strands.{taps-fit, column-to, filled-some}
@@ -25,8 +25,8 @@ add-put-sixteen c = search needs
 put-sixteen-requires-2 : tie.Need-put-sixteen-requires-2
 put-sixteen-requires-2 c κs = search needs
 
-ahead-requires : tie.Need-ahead-requires
-ahead-requires c κs =
+along-requires : tie.Need-along-requires
+along-requires c κs =
     let start = c .before .before .before .before .before .before .before .before .before .before .before .before .before .before .before .before in
     let p = start .pre in
     omega (arith, column-to (p .0) (p .1), p .0 .strand .from-to, p .0 .strand .den-to)
@@ -43,7 +43,7 @@ returns c =
     let p = start .pre in
     let a = start .args in
     let e = wide-parts (laneOf (a .weave) (now (a .coefs)) (now (a .x)) (a .strand)) (made .thirty-two .ensures) in
-    filled-some 32 (omega arith) (omega arith) (p .0 .strand) (p .1) (omega (arith, start .good)) (c .ahead .ensures)
+    filled-some 32 (omega arith) (omega arith) (p .0 .strand) (p .1) (omega (arith, start .good)) (c .along .ensures)
     (strewn-on _ _ _ (near .put-sixteen .ensures _ (e .0)) _ 16 refl (far .put-sixteen2 .ensures _ (e .1))
     (p .0 .strand .den-some) (λ l k q. refl))
 
@@ -56,6 +56,6 @@ make-thirty-two-spec =
     mul-put-sixteen
     add-put-sixteen
     put-sixteen-requires-2
-    ahead-requires
+    along-requires
     same-length
     returns)

@@ -5,7 +5,7 @@ use Prim.Native.Nat.{_+_, _*_, _-_, _≤_}
 use native.Mathlib.Nat.{add-mul, one-mul, zero-mul}
 use native.Mathlib.Omega.{arith}
 use Rattle.kernel.specs.Sums.{at}
-use Rattle.lanes.specs.Abreast.{Strewn}
+use Rattle.lanes.specs.Inner.{Strewn}
 use Rattle.lanes.proofs.Strewing.{strewn-none, strewn-store, strewn-full}
 use Rattle.lanes.proofs.put_four.Statement.{statement}
 use Rattle.lanes.proofs.put_four.Tie as tie

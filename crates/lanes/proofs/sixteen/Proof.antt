@@ -3,7 +3,7 @@
 use mathlib.Core.Path.{_≡_, refl}
 use Prim.Native.Nat.{_+_, _*_, _-_, _≤_, _<_}
 use native.Mathlib.Omega.{arith}
-use Rattle.lanes.specs.Abreast.{Spotted}
+use Rattle.lanes.specs.Inner.{Spotted}
 use Rattle.lanes.proofs.Spots.{spot-first, first-to, tap-to, tap-next}
 use Rattle.lanes.proofs.Adding.{Summed, sums-none, sums-more}
 use Rattle.lanes.proofs.sixteen.Statement.{statement}

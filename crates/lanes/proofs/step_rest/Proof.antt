@@ -7,7 +7,7 @@ use native.Mathlib.Omega.{arith}
 use denote.Ref.{now}
 use lib.ListN.{length, drop}
 use Rattle.kernel.specs.Step.{stepOf}
-use Rattle.lanes.specs.Abreast.{StrandFits, Filled}
+use Rattle.lanes.specs.Inner.{StrandFits, Begun}
 use Rattle.lanes.specs.declared.Strand.{Strand}
 use Rattle.lanes.proofs.Strands.{strand-along, strand-next, filled-none, filled-step, step-along, filled-all}
 use Rattle.lanes.proofs.step_rest.Statement.{statement}
@@ -15,7 +15,7 @@ use Rattle.lanes.proofs.step_rest.Tie as tie
 
 abbrev Inv-loop : tie.InvT-loop
 Inv-loop phase window coefs oversample weave out₀ strand₀ out strand =
-    Filled out₀ out weave strand₀ strand (λ m. stepOf phase (weave .n) oversample coefs (drop ((strand₀ .column + m) * weave .num + strand₀ .row) window))
+    Begun out₀ out weave strand₀ strand (λ m. stepOf phase (weave .n) oversample coefs (drop ((strand₀ .column + m) * weave .num + strand₀ .row) window))
 
 abbrev μ-loop : tie.MeasureT-loop
 μ-loop phase window coefs oversample weave out₀ strand₀ out strand = weave .count - strand .from
@@ -29,10 +29,10 @@ fits : (c : tie.At-loop Inv-loop μ-loop) → StrandFits (start c .args .weave) 
 fits c = let v = c .loop .inv in strand-along (v .m) (v .strand) (v .from-to) (start c .pre .0)
 
 -- where a turn ends
-moved : (c : tie.After-ahead Inv-loop μ-loop) →
+moved : (c : tie.After-along Inv-loop μ-loop) →
     let h = c .before .before .before .before .before in
-    c .ahead .result .from ≡ h .loop .strand .from + start h .args .weave .den
-moved c = ap (λ (s : Strand). s .from) (c .ahead .ensures) ∙ simp one-mul
+    c .along .result .from ≡ h .loop .strand .from + start h .args .weave .den
+moved c = ap (λ (s : Strand). s .from) (c .along .ensures) ∙ simp one-mul
 
 loop-holds : tie.Need-loop-holds Inv-loop μ-loop
 loop-holds c = filled-none _ _ _ _ (c .before .before .before .pre .0 .from-to)
@@ -46,8 +46,8 @@ mul-out c = let h = c .before .before .before .before in omega (arith, c .before
 slice-write-out : tie.Need-slice-write-out Inv-loop μ-loop
 slice-write-out c = let h = c .before .before .before .before in omega (arith, c .before .if1 .taken, fits h .room, h .loop .inv .out .long)
 
-ahead-requires : tie.Need-ahead-requires Inv-loop μ-loop
-ahead-requires c κs =
+along-requires : tie.Need-along-requires Inv-loop μ-loop
+along-requires c κs =
     let h = c .before .before .before .before in
     let n = strand-next (fits h) (c .before .if1 .taken) .1 in
     omega (arith, fits h .from-to, fits h .den-to, one-mul (start h .args .weave .den))
@@ -63,7 +63,7 @@ loop-again c =
     let a = start h .args in
     let f = fits h in
     let below = c .before .before .if1 .taken in
-    filled-step (f .den-some) (h .loop .inv) below (omega (arith, f .room, h .loop .inv .out .long)) (c .ahead .ensures)
+    filled-step (f .den-some) (h .loop .inv) below (omega (arith, f .room, h .loop .inv .out .long)) (c .along .ensures)
     (omega (arith, moved c, f .den-to, f .room, start h .good))
     (step-along (a .weave) (a .phase) (a .oversample) (now (a .coefs)) (now (a .window)) (a .strand) (c .before .step-at .ensures))
 
@@ -83,7 +83,7 @@ step-rest-spec =
     step-at-requires
     mul-out
     slice-write-out
-    ahead-requires
+    along-requires
     loop-less
     loop-again
     same-length

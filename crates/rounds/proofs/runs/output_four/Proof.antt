@@ -4,7 +4,7 @@ use native.Mathlib.Omega.{arith}
 use denote.Ref.{now}
 use lib.ListN.{length-drop}
 use Rattle.kernel.proofs.Parts.{rest, reaches-at}
-use Rattle.abreast.proofs.Turns.{four-is}
+use Rattle.abreast.proofs.Four.{four-is}
 use Rattle.rounds.specs.Rounds.{placeOf}
 use Rattle.rounds.proofs.Phases.{reaches, output-here, output-from}
 use borrow.Author.Needs.{needs}

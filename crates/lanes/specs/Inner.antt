@@ -105,7 +105,7 @@ abbrev pub laneOf : Weave → List Float → List Float → Strand → ℕ → F
 laneOf w coefs x s l = laneSum (w .num) (w .stride) (w .n) coefs x (s .row) (s .column + l)
 
 -- the first outputs of strand s are made, f 0, f 1, .., and t is the strand after them
-pub record Filled (before after : List Float) (w : Weave) (s t : Strand) (f : ℕ → Float) : Type 0 where
+pub record Begun (before after : List Float) (w : Weave) (s t : Strand) (f : ℕ → Float) : Type 0 where
   pub m : ℕ
   pub strand : t ≡ along (w .den) m s
   pub from-to : t .from < 2 ^ 62
