@@ -3,8 +3,9 @@
 // Outputs den apart have the same phase, so the same coefficients, and their windows start num
 // samples apart. A copy of the history is laid out by position modulo num: the samples that one
 // coefficient meets in 32 such outputs are neighbours there. Each output is summed by itself, in the
-// order of the direct kernel, so no bit differs from its sum. Each function asks that what it reads
-// lies within the slices; only `stride_for` tests anything, whether a layout has room.
+// order of the direct kernel, so no bit differs from its sum. `window` is the history from the first
+// window on. Each function asks that what it reads lies within the slices; tested are only whether a
+// layout has room (`stride_for`) and whether an output lies below count (`put_four`).
 use kernel::Phase;
 ghost use mathlib.Core.Path.{_≡_};
 ghost use Prim.Native.Nat.{ℕ, _+_, _*_, _-_, _^_, _≤_, _<_};
@@ -38,6 +39,7 @@ pub fn stride_for(num: usize, reach: usize) -> usize
     if num == 0 {
         return 0;
     }
+    // So that the stride is small.
     if ROOM < reach {
         return 0;
     }
@@ -236,7 +238,7 @@ fn put_four(out: &mut [f32], from: usize, by: usize, s: [f32; 4], count: usize)
     }
 }
 
-// Sixteen.
+// Sixteen sums, four by four.
 fn put_sixteen(out: &mut [f32], from: usize, by: usize, s: Lanes, count: usize)
     requires { ⌜ (count ≤ length (now out)) × (0 < by) × (by ≤ 2 ^ 32) × (from < 2 ^ 63) ⌝ }
     ensures { λ _. ⌜ ((f : ℕ → Float) → s ≡ sixteens f → Strewn (now (out .entry)) (now (out .exit)) from by count 16 f) ⌝ }
@@ -340,7 +342,8 @@ fn fill_thirty_twos(
     strand
 }
 
-// By sixteens while more than two are left: fewer are quicker made one by one.
+// By sixteens while more than two are left. One or two are left to the plain step, which makes one in
+// less time than these make sixteen.
 fn fill_sixteens(x: &[f32], coefs: &[f32], weave: Weave, strand: Strand, out: &mut [f32]) -> Strand
     requires { ⌜ LanesFit weave strand (length (now coefs)) (length (now x)) (length (now out)) ⌝ }
     ensures { λ r. ⌜ Begun (now (out .entry)) (now (out .exit)) weave strand r (laneOf weave (now (coefs .entry)) (now (x .entry)) strand) ⌝ }
@@ -428,6 +431,7 @@ pub fn fill_class(
             let rest = fill_lanes(x, &coefs[start..], weave, strand, out);
             step_rest(phase, window, coefs, oversample, weave, rest, out);
         }
+        // Such outputs have no row; a caller has them only where it does not choose.
         Phase::Interpolated(_, _) => {
             step_rest(phase, window, coefs, oversample, weave, strand, out);
         }

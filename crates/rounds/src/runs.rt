@@ -9,15 +9,14 @@ use lanes::Weave;
 use rates::Kernel;
 use rates::Setting;
 ghost use mathlib.Core.Path.{_≡_};
-ghost use mathlib.Core.List.{List, [], _∷_};
+ghost use mathlib.Core.List.{List};
 ghost use Prim.Native.Nat.{ℕ, _+_, _-_, _^_, _<_, _≤_};
 ghost use lib.ListN.{length, drop};
 ghost use lib.Ieee.{Float};
 ghost use Rattle.timeline.specs.Numbers as numbers;
 ghost use Rattle.timeline.specs.Numbers.{made, ahead};
-ghost use Rattle.timeline.specs.Samples.{output};
 ghost use Rattle.rates.specs.Rated.{rateWith};
-ghost use Rattle.lanes.specs.Layout.{Woven, Strided};
+ghost use Rattle.lanes.specs.Layout.{Woven};
 ghost use Rattle.rounds.specs.Output.{weighOf};
 ghost use Rattle.rounds.specs.Rounds.{placeOf, Playable, RoundFits, Filled};
 ghost use Rattle.rounds.specs.Runs.{Numbered, RunFits, Stands, fourOutputs, Ran, WeaveFits};
@@ -118,7 +117,8 @@ fn make_fours(
     Made { place, written: i }
 }
 
-// Three outputs as four: the fourth is the third once more, and is dropped.
+// Three outputs as four: the fourth is the third once more, and is dropped. The longest filter makes
+// three outputs a round, or four.
 fn make_three(
     setting: Setting,
     before: Made,
@@ -163,7 +163,8 @@ fn make_rest(
     place
 }
 
-// The outputs side by side, four at a time.
+// The outputs four at a time, side by side where `step_four` can. Three that are left go as four only
+// with one row for all: a fourth output costs next to nothing there, and a whole one elsewhere.
 fn make_abreast(
     setting: Setting,
     place: Place,
@@ -176,7 +177,7 @@ fn make_abreast(
     ensures { λ r. ⌜ Ran setting (now (coefs .entry)) (now (mem .entry)) (placeOf place) count count (placeOf r) (now (out .entry)) (now (out .exit)) ⌝ }
 {
     let fours = make_fours(setting, place, mem, coefs, count, out);
-    if fours.written + 3 == count {
+    if setting.den == 1 && fours.written + 3 == count {
         return make_three(setting, fours, mem, coefs, count, out);
     }
     make_rest(setting, fours, mem, coefs, count, out)
@@ -230,13 +231,15 @@ fn make_classes(
     ensures { λ _. ⌜ Ran setting (now (coefs .entry)) (now (mem .entry)) (placeOf place) (weave .count) (weave .count) (ahead (rateWith setting 0) (weave .count) (placeOf place)) (now (out .entry)) (now (out .exit)) ⌝ }
 {
     let at = place.position;
+    // As many entries as `lanes::ROOM` says.
     let mut x: [f32; 2048] = [0.0; 2048];
     lanes::lay_out(&mut x, &mem[at..], weave.num, weave.stride, weave.reach);
     fill_classes(setting, place, &x, mem, coefs, weave, out);
 }
 
 // The numbers of the lanes for the next count outputs; the stride is 0 where lanes do not serve: for
-// an interpolated kernel, for fewer than four outputs to a class, for a filter too long to lay out.
+// an interpolated kernel, for a round whose samples have no room in a layout, and for fewer than four
+// outputs to a class, where laying out costs more than it saves.
 fn weave_for(setting: Setting, place: Place, count: usize) -> Weave
     requires { ⌜ Numbered setting (placeOf place) count ⌝ }
     ensures { λ r. ⌜ (r .count ≡ count) × (0 < r .stride → WeaveFits setting (placeOf place) r) ⌝ }

@@ -1,4 +1,4 @@
--- `rounds::outputs_ahead` meets its contract: past the samples' end there is no output; before it the count is the room, or what stands
+-- `rounds::runs::outputs_ahead` meets its contract: past the samples' end there is no output; before it the count is the room, or what stands
 -- before the end. Assumes nothing.
 use mathlib.Core.Path.{sym}
 use Prim.Native.Nat.{ℕ, _-_, _*_, _<_}

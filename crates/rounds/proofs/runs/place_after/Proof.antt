@@ -1,4 +1,4 @@
--- `rounds::place_after` meets its contract: the place is told at once, and its numbers are small as the last output's are. Assumes nothing.
+-- `rounds::runs::place_after` meets its contract: the place is told at once, and its numbers are small as the last output's are. Assumes nothing.
 use mathlib.Core.Path.{sym}
 use Prim.Native.Nat.{_+_, _*_}
 use native.Mathlib.Nat.{div-le-self}

@@ -1,4 +1,4 @@
--- `rounds::weave_for` meets its contract: a stride that is not 0 is one that `stride_for` found, for the reach of the last output's window. Assumes nothing.
+-- `rounds::runs::weave_for` meets its contract: a stride that is not 0 is one that `stride_for` found, for the reach of the last output's window. Assumes nothing.
 use mathlib.Core.Path.{refl}
 use Prim.Native.Nat.{_+_, _-_, _*_}
 use native.Mathlib.Nat.{div-le-self}
