@@ -2,15 +2,14 @@
 use mathlib.Core.Path.{sym}
 use lib.Seq.{length-take-le}
 use Rattle.stages.proofs.Laws.{written-within, pulls}
-use borrow.Author.Needs.{needs}
 use Rattle.stages.proofs.pull.Statement.{statement}
 use Rattle.stages.proofs.pull.Tie as tie
 
 process-float-requires : tie.Need-process-float-requires
-process-float-requires c κs = search needs
+process-float-requires c κs = tt
 
 written-of-requires : tie.Need-written-of-requires
-written-of-requires c κs = search needs
+written-of-requires c κs = tt
 
 slice-reshare-prefix-encode : tie.Need-slice-reshare-prefix-encode
 slice-reshare-prefix-encode c = written-within (c .before .before .before .before .before .process-float .ensures) (c .written-of .ensures)
@@ -19,19 +18,19 @@ slice-aggregate-encode : tie.Need-slice-aggregate-encode
 slice-aggregate-encode c = sym (length-take-le _ _ (written-within (c .before .before .before .before .before .before .process-float .ensures) (c .before .written-of .ensures)))
 
 encode-requires : tie.Need-encode-requires
-encode-requires c κs = search needs
+encode-requires c κs = tt
 
 state-of-requires : tie.Need-state-of-requires
-state-of-requires c κs = search needs
+state-of-requires c κs = tt
 
 same-length : tie.Need-same-length
-same-length c = search needs
+same-length c = c .before .before .before .before .before .before .before .before .before .before .before .process-float .kept .1 .0
 
 same-length-2 : tie.Need-same-length-2
-same-length-2 c = search needs
+same-length-2 c = c .before .before .before .before .before .before .before .before .before .before .before .process-float .kept .1 .1 .1 .1 .0
 
 same-length-3 : tie.Need-same-length-3
-same-length-3 c = search needs
+same-length-3 c = c .before .before .before .encode .kept .1 .0
 
 returns : tie.Need-returns
 returns c = pulls (c .before .before .before .before .before .before .before .before .before .before .before .process-float .ensures) (c .before .before .before .before .before .before .before .before .before .before .before .before .before .before .before .before .before .before .before .pre) (c .before .before .before .before .before .before .written-of .ensures) (c .before .before .before .encode .ensures) (c .state-of .ensures)
