@@ -2,13 +2,12 @@
 use mathlib.Core.Path.{_∙_, ap}
 use mir.Syntax.{w16}
 use mir.ValLaws.{toZ-ofZ}
-use borrow.Author.Needs.{needs}
 use Rattle.sixteen.specs.Sixteen.{fromI16}
 use Rattle.capi.proofs.marshdeck_from_i16.Statement.{statement}
 use Rattle.capi.proofs.marshdeck_from_i16.Tie as tie
 
 from-i16-requires : tie.Need-from-i16-requires
-from-i16-requires c κs = search needs
+from-i16-requires c κs = tt
 
 returns : tie.Need-returns
 returns c = c .from-i16 .ensures ∙ ap fromI16 (toZ-ofZ w16 (c .before .args .sample) (c .before .fits .sample))

@@ -3,7 +3,6 @@ use mathlib.Core.Path.{_≡_, sym, ap, _∙_}
 use mathlib.Core.Bool.{false, not}
 use native.Mathlib.Omega.{arith}
 use borrow.Author.Tests.{not-false}
-use borrow.Author.Needs.{needs}
 use Rattle.sizes.specs.Sizes.{InLimits, inLimits}
 use Rattle.sizes.proofs.Tests.{test-passed}
 use Rattle.quality.specs.House.{house}
@@ -36,27 +35,27 @@ target-in : (c : tie.Else2) → InLimits (start (to1 c) .args .target-hz)
 target-in c = test-passed _ (not-false _ (target-at c))
 
 in-limits-requires : tie.Need-in-limits-requires
-in-limits-requires c κs = search needs
+in-limits-requires c κs = tt
 
 no-sizes-requires : tie.Need-no-sizes-requires
-no-sizes-requires c κs = search needs
+no-sizes-requires c κs = tt
 
 returns : tie.Need-returns
 unfolding neededSizes
 returns c = rw (← c .before .before .in-limits .ensures, c .before .if1 .taken) (c .no-sizes .ensures)
 
 in-limits-requires-2 : tie.Need-in-limits-requires-2
-in-limits-requires-2 c κs = search needs
+in-limits-requires-2 c κs = tt
 
 no-sizes-requires-2 : tie.Need-no-sizes-requires-2
-no-sizes-requires-2 c κs = search needs
+no-sizes-requires-2 c κs = tt
 
 returns-2 : tie.Need-returns-2
 unfolding neededSizes
 returns-2 c = rw (source-at (c .before .before .before), ap not (sym (c .before .before .in-limits2 .ensures)) ∙ c .before .if2 .taken) (c .no-sizes2 .ensures)
 
 house-requires : tie.Need-house-requires
-house-requires c κs = search needs
+house-requires c κs = tt
 
 new-requires : tie.Need-new-requires
 new-requires c κs = (rw (c .house .ensures) house-sane, source-in (c .before), target-in (c .before))

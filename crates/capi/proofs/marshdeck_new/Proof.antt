@@ -1,11 +1,10 @@
 -- `marshdeck_new` meets its contract. Assumes nothing.
-use borrow.Author.Needs.{needs}
 use Rattle.capi.proofs.Counts.{new-within}
 use Rattle.capi.proofs.marshdeck_new.Statement.{statement}
 use Rattle.capi.proofs.marshdeck_new.Tie as tie
 
 new-requires : tie.Need-new-requires
-new-requires c κs = search needs
+new-requires c κs = tt
 
 flat-answer-requires : tie.Need-flat-answer-requires
 flat-answer-requires c κs = rw (c .new .ensures) (new-within _)

@@ -3,7 +3,6 @@ use mathlib.Core.Path.{_≡_, sym, _∙_}
 use mathlib.Core.Bool.{true}
 use borrow.Author.Tests.{not-true, not-false}
 use denote.Ref.{now}
-use borrow.Author.Needs.{needs}
 use Rattle.flat.specs.Flat.{isState}
 use Rattle.capi.proofs.Counts.{process-fits}
 use Rattle.capi.proofs.Calls.{no-process, processes}
@@ -22,10 +21,10 @@ yes : (c : tie.Else1) → isState (start c .args .state) ≡ true
 yes c = sym (c .before .is-state .ensures) ∙ not-false _ (c .if1 .left)
 
 is-state-requires : tie.Need-is-state-requires
-is-state-requires c κs = search needs
+is-state-requires c κs = tt
 
 no-state-requires : tie.Need-no-state-requires
-no-state-requires c κs = search needs
+no-state-requires c κs = tt
 
 returns : tie.Need-returns
 returns c =
@@ -33,10 +32,10 @@ returns c =
     no-process (a .state) (sym (c .before .before .is-state .ensures) ∙ not-true _ (c .before .if1 .taken)) (c .no-state .ensures) (now (a .mem)) (now (a .coefs)) (now (a .input)) (now (a .out))
 
 state-of-requires : tie.Need-state-of-requires
-state-of-requires c κs = search needs
+state-of-requires c κs = tt
 
 process-float-requires : tie.Need-process-float-requires
-process-float-requires c κs = search needs
+process-float-requires c κs = tt
 
 flat-answer-requires : tie.Need-flat-answer-requires
 flat-answer-requires c κs =
@@ -44,10 +43,10 @@ flat-answer-requires c κs =
     rw (c .before .before .before .before .process-float .ensures .tells) (process-fits _ (now (a .mem)) (now (a .coefs)) (now (a .input)) (now (a .out)))
 
 same-length : tie.Need-same-length
-same-length c = search needs
+same-length c = c .before .before .before .before .before .process-float .kept .1 .0
 
 same-length-2 : tie.Need-same-length-2
-same-length-2 c = search needs
+same-length-2 c = c .before .before .before .before .before .process-float .kept .1 .1 .1 .1 .0
 
 returns-2 : tie.Need-returns-2
 returns-2 c =

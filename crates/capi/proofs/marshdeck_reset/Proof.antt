@@ -3,7 +3,6 @@ use mathlib.Core.Path.{_≡_, sym, _∙_}
 use mathlib.Core.Bool.{true}
 use borrow.Author.Tests.{not-true, not-false}
 use denote.Ref.{now}
-use borrow.Author.Needs.{needs}
 use Rattle.flat.specs.Flat.{isState}
 use Rattle.capi.proofs.Counts.{reset-within}
 use Rattle.capi.proofs.Calls.{no-reset, resets}
@@ -22,10 +21,10 @@ yes : (c : tie.Else1) → isState (start c .args .state) ≡ true
 yes c = sym (c .before .is-state .ensures) ∙ not-false _ (c .if1 .left)
 
 is-state-requires : tie.Need-is-state-requires
-is-state-requires c κs = search needs
+is-state-requires c κs = tt
 
 no-state-requires : tie.Need-no-state-requires
-no-state-requires c κs = search needs
+no-state-requires c κs = tt
 
 returns : tie.Need-returns
 returns c =
@@ -33,10 +32,10 @@ returns c =
     no-reset (a .state) (sym (c .before .before .is-state .ensures) ∙ not-true _ (c .before .if1 .taken)) (c .no-state .ensures) (now (a .mem))
 
 state-of-requires : tie.Need-state-of-requires
-state-of-requires c κs = search needs
+state-of-requires c κs = tt
 
 reset-mem-requires : tie.Need-reset-mem-requires
-reset-mem-requires c κs = search needs
+reset-mem-requires c κs = tt
 
 flat-answer-requires : tie.Need-flat-answer-requires
 flat-answer-requires c κs =
@@ -44,7 +43,7 @@ flat-answer-requires c κs =
     rw (c .before .before .reset-mem .ensures .tells) (reset-within _ (now (a .mem)))
 
 same-length : tie.Need-same-length
-same-length c = search needs
+same-length c = c .before .before .before .reset-mem .kept .1 .0
 
 returns-2 : tie.Need-returns-2
 returns-2 c =

@@ -2,7 +2,6 @@
 use mathlib.Core.Path.{_≡_, sym, _∙_}
 use mathlib.Core.Bool.{true}
 use borrow.Author.Tests.{not-true, not-false}
-use borrow.Author.Needs.{needs}
 use Rattle.quality.specs.House.{house}
 use Rattle.state.specs.declared.ResamplerState.{ResamplerState}
 use Rattle.resampler.specs.Entries.{skipTold}
@@ -24,10 +23,10 @@ yes : (c : tie.Else1) → isState (start c .args .state) ≡ true
 yes c = sym (c .before .is-state .ensures) ∙ not-false _ (c .if1 .left)
 
 is-state-requires : tie.Need-is-state-requires
-is-state-requires c κs = search needs
+is-state-requires c κs = tt
 
 no-state-requires : tie.Need-no-state-requires
-no-state-requires c κs = search needs
+no-state-requires c κs = tt
 
 returns : tie.Need-returns
 returns c =
@@ -35,10 +34,10 @@ returns c =
     none-called (a .state) (sym (c .before .before .is-state .ensures) ∙ not-true _ (c .before .if1 .taken)) (c .no-state .ensures) (λ (s : ResamplerState). skipTold house s)
 
 state-of-requires : tie.Need-state-of-requires
-state-of-requires c κs = search needs
+state-of-requires c κs = tt
 
 skip-zeros-requires : tie.Need-skip-zeros-requires
-skip-zeros-requires c κs = search needs
+skip-zeros-requires c κs = tt
 
 flat-answer-requires : tie.Need-flat-answer-requires
 flat-answer-requires c κs = rw (c .skip-zeros .ensures) (skip-within _)
