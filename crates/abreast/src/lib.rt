@@ -3,6 +3,8 @@
 // waits for another's sum. What comes out is `kernel::step`'s, bit for bit: each contract says so.
 //
 // The four windows are parts of one history: `window` starts where the first of them does.
+#![tactic(auto)]
+
 ghost use Rattle.std.specs.Prelude.{◌≡◌, true, ◌+◌, ◌*◌, ◌^◌, ◌≤◌, ◌<◌, length, drop};
 ghost use Rattle.abreast.specs.Rows.{four_rows, four_taps, RowsWithin};
 ghost use Rattle.abreast.specs.Sums.{EntriesWithin, PartWithin, four_spread, WindowsWithin, FourTapsWithin, SumsAt, AllSums};

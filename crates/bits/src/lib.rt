@@ -1,5 +1,7 @@
 // An f32 and its 32 bits. All NaNs are one: a NaN's pattern reads as that one, and it goes out as
 // 7fc00000.
+#![tactic(auto)]
+
 ghost use Rattle.std.specs.Prelude.{◌≡◌};
 ghost use Rattle.std.specs.Float.Ieee as Ieee;
 ghost use Rattle.std.specs.Float.{binary32};

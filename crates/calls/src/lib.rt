@@ -2,6 +2,8 @@
 //
 // A call asks that its numbers fit the lent slices, which a state that belongs together always does;
 // nothing is tested at run time. Refusals are decided above.
+#![tactic(auto)]
+
 ghost use Rattle.std.specs.Prelude.{ℕ, length};
 ghost use Rattle.timeline.specs.Samples.{play_chunk, play_rounds, play_magic, play_call};
 ghost use Rattle.rates.specs.Rated.{rate_with};

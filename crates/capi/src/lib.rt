@@ -4,6 +4,8 @@
 // Each export but `marshdeck_needed` is one function of ours, through the twins of the crate `flat` where it
 // has a state or an enum, and its contract is that function's, said of the state that the flat one stands
 // for. None has a `requires`. Numbers that no state has get refusal 7 before any slice is looked at.
+#![tactic(auto)]
+
 ghost use Rattle.std.specs.Prelude.{◌≡◌};
 ghost use Rattle.quality.specs.House.{house};
 ghost use Rattle.sine.specs.Sine.{sine_at};

@@ -1,6 +1,8 @@
 // Casts of the Rust that Rattle's `as` leaves undefined, worked out from the bits: f64 to f32, and
 // the floor of an f32 to usize. Beside them the one that `as` has, u32 to f32 where it is exact.
 // From f32 to f64 the kit's `std::num::f32_to_f64_with_nan` serves.
+#![tactic(auto)]
+
 ghost use Rattle.std.specs.Prelude.{◌≡◌, ◌*◌, ◌^◌, ◌<◌, ◌≤◌, from_bits, to_bits};
 ghost use Rattle.std.specs.Float.{binary32, binary64};
 ghost use Rattle.std.specs.Float.Ieee.Nearest.{closest};

@@ -1,4 +1,6 @@
 // The small program, from standard input to standard output.
+#![tactic(auto)]
+
 use libc::{STDIN_FILENO, STDOUT_FILENO};
 
 fn main() {

@@ -1,5 +1,7 @@
 // Runs the small program's code on whole files. Each pair of arguments names an input and what it has to
 // give, both under data/. Writes the name of each input that gave something else, and then the totals.
+#![tactic(auto)]
+
 use conforming::Ending;
 use libc::STDOUT_FILENO;
 

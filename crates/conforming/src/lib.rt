@@ -4,6 +4,8 @@
 // What it makes of the bytes is proved of `pcm` and `stages`, and put together in `conformed`: however a
 // file is cut into reads, the blocks handed on to be written are `conformed` of it. Here are only the
 // reads, the writes and the loops between them. Nothing grows with the file.
+#![tactic(auto)]
+
 ghost use Rattle.std.specs.Prelude.{◌≡◌};
 ghost use Rattle.judge.specs.Refusals.{refusal_number};
 ghost use Rattle.conformed.specs.Conformed.{refusal_line};

@@ -1,5 +1,7 @@
 // What stands at the edges of a file's blocks: the first byte of a sample whose second is not read yet,
 // and the zeros that follow the last sample.
+#![tactic(auto)]
+
 ghost use Rattle.std.specs.Prelude.{◌≡◌, ◌%◌, ◌≤◌, length, take};
 ghost use Rattle.edges.specs.Edges.{odd_of, closing_zeros};
 

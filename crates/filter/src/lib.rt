@@ -1,5 +1,7 @@
 // The table of the filter's coefficients that a kernel reads.
 // How near they come to the sinc of mathematics is not said here: each is its definition's f32.
+#![tactic(auto)]
+
 mod tables;
 
 ghost use Rattle.std.specs.Prelude.{◌≡◌, length};

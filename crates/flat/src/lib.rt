@@ -2,6 +2,8 @@
 // kernel is its number there, and a refusal too. `proofs/Twins.antt` proves that nothing is lost on the way.
 //
 // A flat state may hold any numbers. A kernel above 2 is the one thing in it that no state can hold.
+#![tactic(auto)]
+
 ghost use Rattle.std.specs.Prelude.{◌≡◌, ◌≤◌};
 ghost use Rattle.judge.specs.Refusals.{max_call};
 ghost use Rattle.resampler.specs.Answers.{told};

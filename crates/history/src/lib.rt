@@ -3,6 +3,8 @@
 // Each function reads every entry as it was before that call, so a move may overlap itself, and its
 // contract gives the whole slice at exit: what is not named stays. Each asks that its entries lie
 // within the slice; the callers prove it, and nothing is tested at run time.
+#![tactic(auto)]
+
 ghost use Rattle.std.specs.Prelude.{◌≡◌, ◌+◌, ◌≤◌, length, drop};
 ghost use Rattle.std.proofs.Math.Seq.{paste};
 ghost use Rattle.history.specs.Zeroed.{zeroed};

@@ -3,6 +3,8 @@
 //
 // No judge takes a slice, so none can read or change a sample, and none changes the state. Each
 // answers for any state and any lengths; only the quality row has to be sane.
+#![tactic(auto)]
+
 ghost use Rattle.std.specs.Prelude.{◌≡◌, ◌≤◌, max};
 ghost use Rattle.sizes.specs.Sizes.{history_needed, max_history};
 ghost use Rattle.quality.specs.Quality.{Sane};

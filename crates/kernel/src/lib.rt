@@ -3,6 +3,8 @@
 // Every product and every sum is rounded once, in the Rust's order, and none is skipped: a
 // coefficient of 0 times an infinity is a NaN. Nothing is said of how near an output comes to the
 // signal. Each function asks that what it reads lies within the slices; nothing is tested at run time.
+#![tactic(auto)]
+
 ghost use Rattle.std.specs.Prelude.{◌≡◌, ◌+◌, ◌<◌, ◌≤◌, length};
 ghost use Rattle.kernel.specs.Sums.{direct_sum};
 ghost use Rattle.kernel.specs.Cubic.{third_weight, cubic_coef};

@@ -6,6 +6,8 @@
 // order of the direct kernel, so no bit differs from its sum. `window` is the history from the first
 // window on. Each function asks that what it reads lies within the slices; tested are only whether a
 // layout has room (`stride_for`) and whether an output lies below count (`put_four`).
+#![tactic(auto)]
+
 ghost use Rattle.std.specs.Prelude.{◌≡◌, ℕ, ◌+◌, ◌*◌, ◌-◌, ◌^◌, ◌≤◌, ◌<◌, length, drop, Float};
 ghost use Rattle.math.specs.Numerals.{nought};
 ghost use Rattle.kernel.specs.Sums.{at};

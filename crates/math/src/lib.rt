@@ -2,6 +2,8 @@
 // what every formula of the other crates is written in.
 //
 // Every function answers for every argument, NaN and the infinities included.
+#![tactic(auto)]
+
 ghost use Rattle.std.specs.Prelude.{◌≡◌};
 ghost use Rattle.math.specs.Powers.{square, cube};
 ghost use Rattle.math.specs.Sign.{magnitude, times_sign};

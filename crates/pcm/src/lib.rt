@@ -3,6 +3,8 @@
 //
 // No public function has a `requires`, and none reads or writes a file. A block converts what fits,
 // and says how much that was.
+#![tactic(auto)]
+
 ghost use Rattle.std.specs.Prelude.{◌≡◌, ◌+◌, ◌<◌, ◌≤◌, length};
 ghost use Rattle.pcm.specs.Header.{header_length, byte_at, word16, word32, has_mark, known_version, header_of};
 

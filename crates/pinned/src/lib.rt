@@ -3,3 +3,4 @@
 // what lies past the used part of a lent slice, and a new state takes any first rate in limits where
 // the slices are long enough. There is no code here: specs/ says what is claimed, and proofs/ proves it
 // of the definitions that the contracts cite. How a call works out its result is not said.
+#![tactic(auto)]

@@ -3,6 +3,8 @@
 //
 // It refuses nothing and tests nothing: it asks that the call was accepted, from which all that its
 // parts ask for follows.
+#![tactic(auto)]
+
 ghost use Rattle.std.specs.Prelude.{◌≡◌, length};
 ghost use Rattle.quality.specs.Quality.{Sane};
 ghost use Rattle.judge.specs.Verdicts.{process_verdict};

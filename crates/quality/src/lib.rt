@@ -1,5 +1,7 @@
 // The quality row: how long a filter is, how finely it is sampled and how wide its band is before a
 // ratio changes them. It holds numbers and decides nothing: a row may be made that is not sane.
+#![tactic(auto)]
+
 ghost use Rattle.std.specs.Prelude.{◌≡◌};
 ghost use Rattle.quality.specs.Quality.{row_of};
 ghost use Rattle.quality.specs.House.{house};

@@ -3,6 +3,8 @@
 //
 // Numbers only: no coefficient is worked out here and no history is touched. Nothing is promised
 // for a row that is not sane or a rate out of limits.
+#![tactic(auto)]
+
 ghost use Rattle.std.specs.Prelude.{◌≡◌, ◌≤◌};
 ghost use Rattle.sizes.specs.Sizes.{InLimits, RatioInLimits};
 ghost use Rattle.quality.specs.Quality.{Sane};

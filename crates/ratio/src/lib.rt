@@ -1,6 +1,8 @@
 // Ratios of whole numbers: the greatest common divisor, lowest terms, and a product divided
 // exactly. Everything is u64. Nothing here knows of rates or sound, and nothing promises an answer
 // for a denominator of 0.
+#![tactic(auto)]
+
 ghost use Rattle.std.specs.Prelude.{◌≡◌, ◌*◌, ◌/◌, ◌^◌, ◌<◌};
 ghost use Rattle.ratio.specs.Gcd.{gcd_of};
 ghost use Rattle.ratio.specs.Lowest.{lowest};

@@ -4,6 +4,8 @@
 // specs/Recording.antt says what a recording is, specs/Demand3.antt what is claimed of each, and
 // proofs/Theorems.antt proves it from what `new`, `source_hz` and `process_float` ensure, over any sane
 // quality row. The code is `closed_total` alone: it tells the count before a sample is read.
+#![tactic(auto)]
+
 ghost use Rattle.std.specs.Prelude.{◌≡◌, ◌≤◌};
 ghost use Rattle.ratio.specs.Lowest.{lowest};
 ghost use Rattle.sizes.specs.Sizes.{InLimits};

@@ -5,6 +5,8 @@
 // line. docs/REPLAY.md has the words of a script. A line that cannot be played is named by its number,
 // and ends the run. Nothing is proved of the answers here but that the program is safe and ends; what
 // the calls answer is the resampler's contract.
+#![tactic(auto)]
+
 mod answer;
 mod lexer;
 mod orders;

@@ -4,6 +4,8 @@
 // counts of zero and the state as it was given, and its slices keep their contents. The state is a
 // plain struct that goes in by value and comes back in the answer; the history and the coefficients
 // are lent. How near the outputs come to the signal is not said: each is its definition's f32.
+#![tactic(auto)]
+
 ghost use Rattle.std.specs.Prelude.{◌≡◌};
 ghost use Rattle.quality.specs.House.{house};
 ghost use Rattle.resampler.specs.Answers.{told};

@@ -2,6 +2,8 @@
 //
 // It knows lengths and samples only: whether a rate may be set, and to what, is decided above. It
 // asks that the numbers fit the lent slice, which a state that belongs together always does.
+#![tactic(auto)]
+
 ghost use Rattle.std.specs.Prelude.{◌≡◌, ◌+◌, ◌*◌, ◌≤◌, ◌<◌, length};
 ghost use Rattle.reshape.specs.Reshaped.{raised, longer, longer_magic, reshaped_history, reshaped_magic, ChangeFits};
 

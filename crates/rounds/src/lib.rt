@@ -3,6 +3,8 @@
 // A round asks that its numbers fit the lent slices, which a state that belongs together always
 // does; nothing is tested at run time. Where the samples come from, and how many rounds a call runs,
 // is decided above.
+#![tactic(auto)]
+
 mod runs;
 
 ghost use Rattle.std.specs.Prelude.{◌≡◌, ℕ, ◌+◌, ◌^◌, ◌<◌, ◌≤◌, length};

@@ -1,5 +1,7 @@
 // One coefficient: the sinc, cut off by the window. That its values lie near those of another
 // build's sine is not said here: each is the definition's, bit for bit.
+#![tactic(auto)]
+
 ghost use Rattle.std.specs.Prelude.{◌≡◌, ◌<◌};
 ghost use Rattle.window.specs.Window.{NotAboveOne};
 ghost use Rattle.sinc.specs.Sinc.{MirrorFits, place_at, windowed_sinc, sinc_at};

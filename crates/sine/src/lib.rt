@@ -1,6 +1,8 @@
 // The sine of document 01, for every f64: a reduction to a quarter turn, then ten terms by Horner's
 // rule, each operation rounded once and in a fixed order. The reduction works with the f64 nearest
 // pi, so far from 0 it drifts away from the sine of mathematics: nothing is promised of that.
+#![tactic(auto)]
+
 ghost use Rattle.std.specs.Prelude.{◌≡◌};
 ghost use Rattle.sine.specs.Sine.{reduced, series, sine_at};
 

@@ -2,6 +2,8 @@
 // bits.
 //
 // No public function has a `requires`: each answers for every argument, NaN and the infinities too.
+#![tactic(auto)]
+
 ghost use Rattle.std.specs.Prelude.{◌≡◌, ◌≤◌, T, pos, neg_ℤ};
 ghost use Rattle.std.specs.Float.Ieee.{le};
 ghost use Rattle.math.specs.Numerals.{nought};

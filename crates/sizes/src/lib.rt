@@ -1,5 +1,7 @@
 // Document 01's sizes: which rates are taken, and how long a history a filter needs.
 // It works out nothing about a rate, and refuses nothing: callers ask, and decide.
+#![tactic(auto)]
+
 ghost use Rattle.std.specs.Prelude.{◌≡◌, ◌≤◌};
 ghost use Rattle.sizes.specs.Sizes.{in_limits, history_needed, max_history};
 

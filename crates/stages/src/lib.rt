@@ -2,6 +2,8 @@
 //
 // Everything here works on lent slices and knows nothing of files, so that its contracts say all that
 // the small program does between a read and a write.
+#![tactic(auto)]
+
 ghost use Rattle.std.specs.Prelude.{◌≡◌, ◌*◌, ◌/◌, ◌≤◌, length, take, drop};
 ghost use Rattle.resampler.specs.Answers.{told};
 ghost use Rattle.edges.specs.Edges.{closing};

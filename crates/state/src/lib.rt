@@ -2,6 +2,8 @@
 //
 // A state is a plain struct, so anybody may make one up: `belongs` takes any numbers at all and
 // never wraps on the way. Nothing here changes a state, and no sample or coefficient is looked at.
+#![tactic(auto)]
+
 ghost use Rattle.std.specs.Prelude.{◌≡◌, ◌+◌, ◌*◌, ◌≤◌};
 ghost use Rattle.sizes.specs.Sizes.{history_needed};
 ghost use Rattle.quality.specs.Quality.{Sane};

@@ -3,6 +3,8 @@
 //
 // It refuses nothing and tests nothing: it asks that the change was accepted, from which all that its
 // parts ask for follows.
+#![tactic(auto)]
+
 ghost use Rattle.std.specs.Prelude.{◌≡◌, ◌≤◌, ◌<◌, length};
 ghost use Rattle.quality.specs.Quality.{Sane};
 ghost use Rattle.rates.specs.Setting.{setting_of};

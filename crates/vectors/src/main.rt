@@ -3,6 +3,8 @@
 // document 01's numbers. Writes each line that is wrong, and then the totals.
 //
 // Only safety is proved here. A file that is missing or cut shows in the totals.
+#![tactic(auto)]
+
 mod conversions;
 mod limits;
 mod rated;

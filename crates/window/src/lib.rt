@@ -1,5 +1,7 @@
 // The Kaiser window, read from its table with cubic weights.
 // What it answers above 1 is not said: no caller goes there, so no index is tested at run time.
+#![tactic(auto)]
+
 ghost use Rattle.std.specs.Prelude.{◌≡◌, ◌≤◌};
 ghost use Rattle.window.specs.Window.{NotAboveOne, kaiser, weights_at, weighted_sum, window_at};
 
