@@ -13,7 +13,7 @@ ghost use Rattle.abreast.specs.Four.{parts_of, OneRow, AllInterpolated, four_int
 use kernel::{Phase, fold_sums, spread, step, sums_on};
 
 // How far past the first window the other three start.
-#[derive(Drop)]
+#[derive(Clone, Copy)]
 pub struct Shifts {
     pub b: usize,
     pub c: usize,
@@ -88,7 +88,7 @@ fn four_rows(row: &[f32], w0: &[f32], w1: &[f32], w2: &[f32], w3: &[f32], n: usi
 }
 
 // The offset of each of four interpolated outputs.
-#[derive(Drop)]
+#[derive(Clone, Copy)]
 struct Offsets {
     a: usize,
     b: usize,
@@ -97,7 +97,7 @@ struct Offsets {
 }
 
 // The four sums of each of them.
-#[derive(Drop)]
+#[derive(Clone, Copy)]
 struct Sums {
     a: [f32; 4],
     b: [f32; 4],
@@ -285,7 +285,7 @@ fn interpolate_four(
 }
 
 // A phase as numbers: whether it is direct, its row or its offset, its remainder.
-#[derive(Drop)]
+#[derive(Clone, Copy)]
 struct Parts {
     direct: bool,
     index: usize,

@@ -15,7 +15,7 @@ use rates::Setting;
 use rounds::{Consumed, Place, Turn, Written, process_native};
 
 // What a call did, and how many magic samples it left.
-#[derive(Drop)]
+#[derive(Clone, Copy)]
 pub struct Called {
     pub turn: Turn,
     pub magic: usize,

@@ -6,7 +6,7 @@ use conforming::Ending;
 use libc::STDOUT_FILENO;
 
 // How two files go on: a block of each is the same and more may follow, they ended alike, or they differ.
-#[derive(Drop)]
+#[derive(Clone, Copy)]
 pub enum Next {
     More,
     Ended,

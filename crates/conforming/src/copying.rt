@@ -7,7 +7,7 @@ use crate::{Ending, files};
 
 // What a turn leaves: how many bytes are held at the front, the first of a sample or none, and what
 // comes next.
-#[derive(Drop)]
+#[derive(Clone, Copy)]
 pub struct Copied {
     pub held: usize,
     pub next: Next,

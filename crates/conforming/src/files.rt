@@ -7,7 +7,7 @@ ghost use Rattle.conforming.specs.Endings.{Ends};
 use crate::Ending;
 
 // What comes after a turn of a loop: another turn, the end of the input, or an end before it.
-#[derive(Drop)]
+#[derive(Clone, Copy)]
 pub enum Next {
     More,
     Ended,
@@ -55,7 +55,7 @@ pub fn after_write(written: bool) -> Next {
 
 // What reading brought: how many bytes, and whether the system refused. None without a refusal is the
 // end of the input.
-#[derive(Drop)]
+#[derive(Clone, Copy)]
 pub struct Got {
     pub count: usize,
     pub failed: bool,

@@ -21,7 +21,7 @@ mod resampling;
 
 // How a run ended. Refused: its line is all that was written. A read or a write that failed is told on
 // standard error; what was written before it stands.
-#[derive(Drop)]
+#[derive(Clone, Copy)]
 pub enum Ending {
     Conformed,
     Refused(Refusal),

@@ -27,7 +27,7 @@ const TEXT: usize = 98306;
 const SAMPLES: usize = 3840;
 
 // What a turn leaves: what is kept, and what comes next.
-#[derive(Drop)]
+#[derive(Clone, Copy)]
 pub struct Turned {
     pub kept: Kept,
     pub next: Next,

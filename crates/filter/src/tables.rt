@@ -25,7 +25,7 @@ fn interpolated_x(n: u32, oversample: u32, i: u32) -> f32
 }
 
 // A place in the direct table.
-#[derive(Drop)]
+#[derive(Clone, Copy)]
 struct Spot {
     row: u32,
     column: u32,

@@ -25,7 +25,7 @@ const TOO_MANY: u32 = 100;
 
 // A state, field by field; the kernel is 0 for none, 1 direct, 2 interpolated.
 #[repr(C)]
-#[derive(Drop)]
+#[derive(Clone, Copy)]
 pub struct FlatState {
     pub target: u32,
     pub source: u32,
@@ -47,7 +47,7 @@ pub struct FlatState {
 
 // What a call answers: a refusal's number, 0 where it is accepted, the counts, and the state.
 #[repr(C)]
-#[derive(Drop)]
+#[derive(Clone, Copy)]
 pub struct FlatAnswer {
     pub refusal: u32,
     pub consumed: u32,
@@ -57,7 +57,7 @@ pub struct FlatAnswer {
 
 // A closed total: a refusal's number, 0 where there is a total.
 #[repr(C)]
-#[derive(Drop)]
+#[derive(Clone, Copy)]
 pub struct FlatTotal {
     pub refusal: u32,
     pub total: u64,
@@ -65,7 +65,7 @@ pub struct FlatTotal {
 
 // How long the history has to be, and how many coefficients there are; a refusal's number, else 0.
 #[repr(C)]
-#[derive(Drop)]
+#[derive(Clone, Copy)]
 pub struct FlatSizes {
     pub refusal: u32,
     pub history: u32,

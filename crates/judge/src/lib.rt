@@ -20,7 +20,7 @@ const MAX_CALL: usize = 16777216;
 
 // Why a call is refused. `Mark` and `Version` are the program's, about a file's header; no judge here
 // gives them.
-#[derive(Drop)]
+#[derive(Clone, Copy)]
 pub enum Refusal {
     Rate,
     History,
@@ -53,7 +53,7 @@ impl Refusal {
 }
 
 // What becomes of a call: it is refused, or it is accepted.
-#[derive(Drop)]
+#[derive(Clone, Copy)]
 pub enum Verdict {
     Refuse(Refusal),
     Accept,

@@ -113,7 +113,7 @@ pub fn interpolate_step(
 }
 
 // The phase of an output: a row of the direct table, or an offset with a remainder.
-#[derive(Drop)]
+#[derive(Clone, Copy)]
 pub enum Phase {
     Direct(usize),
     Interpolated(usize, f32),

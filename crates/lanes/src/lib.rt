@@ -23,7 +23,7 @@ pub const ROOM: usize = 2048;
 
 // The numbers of one round: the ratio, how many coefficients an output has, the layout's stride and
 // how many samples it holds, and how many outputs there are.
-#[derive(Drop)]
+#[derive(Clone, Copy)]
 pub struct Weave {
     pub num: usize,
     pub den: usize,
@@ -80,7 +80,7 @@ pub fn lay_out(x: &mut [f32], window: &[f32], num: usize, stride: usize, reach: 
 }
 
 // Where a tap's samples stand: the row, and the entry of the first.
-#[derive(Drop)]
+#[derive(Clone, Copy)]
 struct Spot {
     row: usize,
     i: usize,
@@ -119,7 +119,7 @@ fn add_four(s: [f32; 4], k: f32, x: &[f32], i: usize) -> [f32; 4]
 }
 
 // The sums of sixteen outputs.
-#[derive(Drop)]
+#[derive(Clone, Copy)]
 struct Lanes {
     a: [f32; 4],
     b: [f32; 4],
@@ -128,7 +128,7 @@ struct Lanes {
 }
 
 // The sums of thirty-two.
-#[derive(Drop)]
+#[derive(Clone, Copy)]
 struct Wide {
     near: Lanes,
     far: Lanes,
@@ -259,7 +259,7 @@ fn put_sixteen(out: &mut [f32], from: usize, by: usize, s: Lanes, count: usize)
 
 // The outputs of one phase that are still to be made: the row and the column of the layout where the
 // window of the next one starts, and its number.
-#[derive(Drop)]
+#[derive(Clone, Copy)]
 struct Strand {
     row: usize,
     column: usize,

@@ -18,7 +18,7 @@ pub use samples::{decode, encode};
 const HEADER_LENGTH: usize = 13;
 
 // What the first bytes of a file say: why it is refused, or its source rate and its target rate.
-#[derive(Drop)]
+#[derive(Clone, Copy)]
 pub enum Header {
     Refused(Refusal),
     Rates(u32, u32),

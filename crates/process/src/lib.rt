@@ -17,7 +17,7 @@ use rounds::{Consumed, Place, Written};
 use state::ResamplerState;
 
 // What a call did: the state for the next one, how many samples were read and how many outputs made.
-#[derive(Drop)]
+#[derive(Clone, Copy)]
 pub struct Processed {
     pub state: ResamplerState,
     pub consumed: Consumed,

@@ -8,7 +8,7 @@ ghost use Rattle.quality.specs.House.{house};
 
 // A quality row: the filter's length and oversample where the rate does not fall, and the
 // bandwidths where it falls and where it does not.
-#[derive(Drop)]
+#[derive(Clone, Copy)]
 pub struct QualityMapping {
     pub base_length: usize,
     pub oversample: usize,

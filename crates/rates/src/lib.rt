@@ -14,7 +14,7 @@ use quality::QualityMapping;
 use ratio::{_muldiv, simplify};
 
 // What makes an output; `Unset` before a source rate was set.
-#[derive(Drop)]
+#[derive(Clone, Copy)]
 pub enum Kernel {
     Unset,
     Direct,
@@ -22,7 +22,7 @@ pub enum Kernel {
 }
 
 // Everything that two rates and a quality row give; `coefs` is how many coefficients there are.
-#[derive(Drop)]
+#[derive(Clone, Copy)]
 pub struct Setting {
     pub num: u32,
     pub den: u32,

@@ -8,7 +8,7 @@ ghost use Rattle.ratio.specs.Gcd.{gcd_of};
 ghost use Rattle.ratio.specs.Lowest.{lowest};
 
 // The ratio num/den.
-#[derive(Drop)]
+#[derive(Clone, Copy)]
 pub struct Ratio {
     pub num: u64,
     pub den: u64,

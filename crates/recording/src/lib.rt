@@ -21,7 +21,7 @@ const MAX_SAMPLES: u64 = 1 << 40;
 
 // How many outputs a closed recording has. Refused: a rate is out of limits. TooMany: there are more
 // samples than a total is told for, which no number of document 01 fits.
-#[derive(Drop)]
+#[derive(Clone, Copy)]
 pub enum Total {
     Refused(Refusal),
     TooMany,

@@ -17,7 +17,7 @@ mod words;
 
 // What is carried from line to line beside the arrays: the byte that comes next, the number of its
 // line, and whether to go on.
-#[derive(Drop)]
+#[derive(Clone, Copy)]
 struct Held {
     next: u32,
     line: u64,

@@ -23,7 +23,7 @@ const MOST_ROOM: u32 = 16384;
 
 // The operation's name, or what the line is that has none; the slice that is poked; its numbers and
 // its pattern, 0 where it has none; how many samples it names; and the byte that ends its line.
-#[derive(Drop)]
+#[derive(Clone, Copy)]
 pub struct Order {
     pub name: usize,
     pub slice: usize,

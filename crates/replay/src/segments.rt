@@ -44,7 +44,7 @@ const SPECIALS: [u32; 16] = [
 ];
 
 // How many entries of the slice are laid, and the byte that comes next in the line.
-#[derive(Drop)]
+#[derive(Clone, Copy)]
 pub struct Laid {
     pub next: u32,
     pub count: u32,

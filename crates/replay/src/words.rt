@@ -16,20 +16,20 @@ const MAX_READ: u64 = 184467440737095515;
 const MAX_NUMBER: u64 = 4294967295;
 
 // A name's place in NAMES, and how many names there are where it is not among them.
-#[derive(Drop)]
+#[derive(Clone, Copy)]
 pub struct Name {
     pub next: u32,
     pub place: usize,
 }
 
-#[derive(Drop)]
+#[derive(Clone, Copy)]
 pub struct Number {
     pub next: u32,
     pub value: u32,
 }
 
 // A run of digits. The value is right up to MAX_READ, and above that only known to be above.
-#[derive(Drop)]
+#[derive(Clone, Copy)]
 struct Digits {
     next: u32,
     value: u64,

@@ -21,7 +21,7 @@ pub use state::ResamplerState;
 
 // What a call answers. Refused: the state as it was given, or for a refused new state the one whose
 // numbers are all 0. Accepted: the state for the next call, and the counts.
-#[derive(Drop)]
+#[derive(Clone, Copy)]
 pub enum Answer {
     Refused(Refusal, ResamplerState),
     Accepted(ResamplerState, Consumed, Written),

@@ -9,7 +9,7 @@ ghost use Rattle.reshape.specs.Reshaped.{raised, longer, longer_magic, reshaped_
 
 // A change of rate, as the history sees it: its length before and after, the filter's length before
 // and after, the magic samples before, and 0 where no round ever ran.
-#[derive(Drop)]
+#[derive(Clone, Copy)]
 pub struct Change {
     pub started: usize,
     pub old_alloc_size: usize,

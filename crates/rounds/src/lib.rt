@@ -20,21 +20,21 @@ use runs::make_outputs;
 
 // How many samples were read, and how many outputs were made. Two types, so that one is never taken
 // for the other.
-#[derive(Drop)]
+#[derive(Clone, Copy)]
 pub struct Consumed(pub u64);
 
-#[derive(Drop)]
+#[derive(Clone, Copy)]
 pub struct Written(pub u64);
 
 // The entry of the history at which the next output's window starts, and the output's phase.
-#[derive(Drop)]
+#[derive(Clone, Copy)]
 pub struct Place {
     pub position: usize,
     pub phase: usize,
 }
 
 // What was done, and the place where it ended.
-#[derive(Drop)]
+#[derive(Clone, Copy)]
 pub struct Turn {
     pub consumed: Consumed,
     pub written: Written,

@@ -15,7 +15,7 @@ use lanes::Weave;
 use rates::{Kernel, Setting};
 
 // How far a run of outputs has come: the place of the next one, and how many there are.
-#[derive(Drop)]
+#[derive(Clone, Copy)]
 pub struct Made {
     pub place: Place,
     pub written: usize,

@@ -13,7 +13,7 @@ const PI: f64 = 3.141592653589793;
 
 // What the reduction leaves of an angle: r, from 0 to a quarter turn, and whether the sign of its
 // sine is flipped.
-#[derive(Drop)]
+#[derive(Clone, Copy)]
 struct Reduced {
     r: f64,
     flip: bool,

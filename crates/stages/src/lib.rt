@@ -14,7 +14,7 @@ use resampler::{Answer, ResamplerState};
 // What is kept between two reads. `held` is 1 where the first byte of a sample stands at the start of
 // the block of bytes, else 0. `came` tells whether any sample came. `size` is how many bytes were
 // handed on at last.
-#[derive(Drop)]
+#[derive(Clone, Copy)]
 pub struct Kept {
     pub state: ResamplerState,
     pub held: usize,
@@ -23,7 +23,7 @@ pub struct Kept {
 }
 
 // What one call of the resampler left: the state for the next one, and how many bytes it handed on.
-#[derive(Drop)]
+#[derive(Clone, Copy)]
 pub struct Pulled {
     pub state: ResamplerState,
     pub size: usize,

@@ -16,7 +16,7 @@ use sizes::{BUFFER_SIZE, MAX_HISTORY};
 
 // Everything the resampler keeps between calls but the samples and the coefficients, which are
 // lent. `source` is 0 before a source rate was set.
-#[derive(Drop)]
+#[derive(Clone, Copy)]
 pub struct ResamplerState {
     // rates in Hz
     pub target: u32,

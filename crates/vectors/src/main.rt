@@ -15,7 +15,7 @@ ghost use Rattle.std.specs.Prelude.{◌≡◌, ◌<◌, length};
 use libc::STDOUT_FILENO;
 
 // What the lines of a file are about.
-#[derive(Drop)]
+#[derive(Clone, Copy)]
 enum Subject {
     Samples,
     Sine,

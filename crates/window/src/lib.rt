@@ -19,7 +19,7 @@ const WINDOW_FN_KAISER_TABLE: [f64; 36] = [
 const WINDOW_FN_OVERSAMPLE: f32 = 32.0;
 
 // What each of four neighbouring entries counts for.
-#[derive(Drop)]
+#[derive(Clone, Copy)]
 pub struct Weights {
     pub w0: f64,
     pub w1: f64,

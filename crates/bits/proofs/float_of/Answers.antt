@@ -7,8 +7,7 @@ use borrow.Author.Tests.{lt-ltb, le-ltb}
 use lib.Dec.{T}
 use lib.Ieee.{Float, nan, inf, fin, binary32, is_nan, nan_bits, of_bits, div}
 use lib.Ieee.Bits.{nan_bits_is, nan_bits_above}
-use Rattle.bits.proofs.float_of.Statement.{statement}
-use Rattle.bits.proofs.float_of.Tie as tie
+use Rattle.bits.proofs.float_of.Goals as goal
 
 nan_is : (x : Float) → is_nan x ≡ true → x ≡ nan
 unfolding is_nan
@@ -26,14 +25,8 @@ zeros : div binary32 (of_bits binary32 0) (of_bits binary32 0) ≡ nan
 unfolding div of_bits
 zeros = refl
 
-returns : tie.Need-returns
-returns c = zeros ∙ sym (above c.before.args.pattern c.if1.true)
+pub returns-then-pattern-gt2139095040 : goal.returns-then-pattern-gt2139095040
+returns-then-pattern-gt2139095040 c = zeros ∙ sym (above c.args.pattern c.if-pattern-gt2139095040.true)
 
-float-from-bits-result : tie.Need-float-from-bits-result
-float-from-bits-result c = below c.before.args.pattern c.if1.false
-
-returns-2 : tie.Need-returns-2
-returns-2 c = search rules
-
-pub float-of-spec : {M : Type 1} → statement M
-float-of-spec = tie.close (tie.spec returns float-from-bits-result returns-2)
+pub float_from_bits-result : goal.float_from_bits-result
+float_from_bits-result c = below c.args.pattern c.if-pattern-gt2139095040.false

@@ -8,8 +8,7 @@ use lib.Ieee.Fits.{down_pos}
 use Rattle.math.specs.Numerals.{nought}
 use Rattle.casts.specs.Floor.{floor_of}
 use Rattle.math.proofs.Pick.{passed, failed}
-use Rattle.casts.proofs.floor.Statement.{statement}
-use Rattle.casts.proofs.floor.Tie as tie
+use Rattle.casts.proofs.floor.Goals as goal
 
 -- ---- above 0 and below 2 ^ 64
 above_minus_one : (y : Float) → lt nought y ≡ true → T (lt (fin true 1 (pos 0)) y)
@@ -20,9 +19,9 @@ above_minus_one (inf false) h = tt
 above_minus_one (fin true m e) h = absurd (false≢true h)
 above_minus_one (fin false m e) h = lt→ltb 0 (1 * 1 * down e + m * up e * 1) (omega (arith, down_pos e))
 
-truncating-f32-to-u64-requires : tie.Need-truncating-f32-to-u64-requires
+pub truncating_f32_to_u64-requires : goal.truncating_f32_to_u64-requires
 unfolding of_bits
-truncating-f32-to-u64-requires c κs = (above_minus_one c.before.before.args.y c.before.if1.true, passed c.if2.true)
+truncating_f32_to_u64-requires c = record { lower_bound = above_minus_one c.args.y c.if-y.true; upper_bound = passed c.if-y-2.true }
 
 truncated : (y : Float) → to_unsigned 64 y ≡ floor_of y
 unfolding to_unsigned floor_of
@@ -30,8 +29,8 @@ truncated nan = refl
 truncated (inf s) = refl
 truncated (fin s m e) = refl
 
-returns : tie.Need-returns
-returns c = c.truncating-f32-to-u64.ensures ∙ truncated _
+pub returns-then-y-2 : goal.returns-then-y-2
+returns-then-y-2 c = c.truncating_f32_to_u64.ensures ∙ truncated _
 
 -- ---- from 2 ^ 64 on
 too_large : (y : Float) → lt nought y ≡ true → lt y (fin false 1 (pos 64)) ≡ false → 2 ^ 64 - 1 ≡ floor_of y
@@ -45,9 +44,9 @@ too_large (fin false m e) h k =
     let q : 2 ^ 64 ≤ m * up e / down e = (le-div_iff_mul-le (down_pos e)).1 (omega arith) in
     omega arith
 
-returns-2 : tie.Need-returns-2
+pub returns-then-y : goal.returns-then-y
 unfolding of_bits
-returns-2 c = too_large c.before.before.args.y c.before.if1.true c.if2.false
+returns-then-y c = too_large c.args.y c.if-y.true c.if-y-2.false
 
 -- ---- negative, 0 or a NaN
 not-above-nought : (y : Float) → lt nought y ≡ false → 0 ≡ floor_of y
@@ -61,9 +60,6 @@ not-above-nought (fin false m e) h =
     let z : m * up e / down e ≡ 0 = div-eq_of_lt (omega (arith, down_pos e)) in
     omega arith
 
-returns-3 : tie.Need-returns-3
+pub returns : goal.returns
 unfolding of_bits
-returns-3 c = not-above-nought c.before.args.y c.if1.false
-
-pub floor-spec : {M : Type 1} → statement M
-floor-spec = tie.close (tie.spec truncating-f32-to-u64-requires returns returns-2 returns-3)
+returns c = not-above-nought c.args.y c.if-y.false

@@ -10,8 +10,8 @@ use Rattle.math.specs.Sign.{magnitude}
 use Rattle.sine.specs.Sine.{C, reduced}
 use Rattle.sine.specs.declared.Reduced.{Reduced}
 use Rattle.math.proofs.Pick.{on_true, on_false}
-use Rattle.sine.proofs.reduce.Statement.{statement}
-use Rattle.sine.proofs.reduce.Tie as tie
+use Rattle.sine.proofs.reduce.Goals as goal
+use Rattle.sine.proofs.reduce.Goals.{Joined-flip, then-flip, else-flip}
 
 -- the angle v within a turn
 abbrev turned : Float → Float
@@ -23,20 +23,14 @@ steps : (a v half r : Float) → v ≡ magnitude a → half ≡ cond (le C (turn
 unfolding reduced
 steps a v half r e h k = cc
 
-abs-requires : tie.Need-abs-requires
-abs-requires c κs = search rules
-
-half_is : (c : tie.Joined1) → c.if1.half ≡ cond (le C (turned c.before.abs.result)) (turned c.before.abs.result -ᵈ C) (turned c.before.abs.result)
+half_is : (c : Joined-flip) → c.if-flip.half ≡ cond (le C (turned c.abs.result)) (turned c.abs.result -ᵈ C) (turned c.abs.result)
 unfolding C decimal64 of_bits of_int
-half_is c = ⊎_elim (λ w. w.1 ∙ on_true _ _ w.0.taken) (λ w. w.1 ∙ on_false _ _ w.0.left) c.if1.branch
+half_is c = elim c.if-flip.branch [ then-flip w ↦ w.half-is ∙ on_true _ _ w.if-flip.true | else-flip w ↦ w.half-is ∙ on_false _ _ w.if-flip.false ]
 
-returns : tie.Need-returns
+pub returns-then-half : goal.returns-then-half
 unfolding C decimal64 of_bits of_int
-returns c = steps _ _ _ _ c.before.before.abs.ensures (half_is c.before) (on_true _ _ c.if2.true)
+returns-then-half c = steps _ _ _ _ c.abs.ensures (half_is c.before) (on_true _ _ c.if-half.true)
 
-returns-2 : tie.Need-returns-2
+pub returns-else-half : goal.returns-else-half
 unfolding C decimal64 of_bits of_int
-returns-2 c = steps _ _ _ _ c.before.before.abs.ensures (half_is c.before) (on_false _ _ c.if2.false)
-
-pub reduce-spec : {M : Type 1} → statement M
-reduce-spec = tie.close (tie.spec abs-requires returns returns-2)
+returns-else-half c = steps _ _ _ _ c.abs.ensures (half_is c.before) (on_false _ _ c.if-half.false)
