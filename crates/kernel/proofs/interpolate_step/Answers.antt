@@ -6,7 +6,7 @@ use Rattle.kernel.proofs.interpolate_step.Goals as goal
 
 pub sums_on-accum-requires : goal.sums_on-accum-requires
 unfolding four_sums of_bits
-sums_on-accum-requires c = ((omega arith, c.requires.n_in_bounds), (c.requires.taps_within, refl))
+sums_on-accum-requires c = record { from_le_to = (omega arith, c.requires.n_in_bounds); taps_within = c.requires.taps_within; sums_value = refl }
 
 pub returns : goal.returns
 returns c = rw (c.fold_sums.ensures, c.sums_on-accum.ensures)

@@ -10,7 +10,7 @@ use Rattle.kernel.proofs.sums_on.Goals.{In-loop-j, Start}
 first_ends : (c : Start) → (c.args.from + 1) * c.args.oversample ≤ c.args.to * c.args.oversample + c.args.oversample
 first_ends c =
     let o = c.args.oversample in
-    omega (arith, mul-le-mul_right o c.requires.0.0, add-mul c.args.from 1 o, one-mul o)
+    omega (arith, mul-le-mul_right o c.requires.from_le_to.0, add-mul c.args.from 1 o, one-mul o)
 
 -- the coefficients that the turn reads lie within the table
 fits : (c : In-loop-j) →
@@ -25,7 +25,7 @@ pub overflow_add-idx-2 : goal.overflow_add-idx-2
 overflow_add-idx-2 c = omega (arith, first_ends (goal.at-overflow_add-idx-2 c).Start)
 
 pub loop-j-init : goal.loop-j-init
-loop-j-init c = (omega arith, refl, c.requires.1.1)
+loop-j-init c = (omega arith, refl, c.requires.sums_value)
 
 pub spread-next-requires : goal.spread-next-requires
 spread-next-requires c = omega (arith, fits (goal.at-spread-next-requires c).In-loop-j)
@@ -36,7 +36,7 @@ overflow_add-idx-in-loop-j c = omega (arith, fits (goal.at-overflow_add-idx-in-l
 pub loop-j-preserved : goal.loop-j-preserved
 loop-j-preserved c = 
     let v = c.loop-j.invariant in
-    (omega arith, tap_turn _ _ _ (omega (arith, c.pre)) v.1, four_turn _ _ _ _ _ v.1 v.2 c.spread-next.ensures)
+    (omega arith, tap_turn _ _ _ (omega (arith, c.requires)) v.1, four_turn _ _ _ _ _ v.1 v.2 c.spread-next.ensures)
 
 pub returns : goal.returns
 returns c = let e : c.loop-j.j ≡ c.args.to = omega arith in rw (← e) c.loop-j.invariant.2
