@@ -10,6 +10,7 @@ use lib.Pow.{shl_exact, pow_mono}
 use Rattle.rates.specs.Setting.{halved}
 use Rattle.rates.proofs.Numbers.{halved_none, halved_more, halved_same}
 use Rattle.rates.proofs.halve.Goals as goal
+use Rattle.rates.proofs.halve.Goals.{then-x-den, else-x-den}
 
 -- one turn at x
 module _ (num den m x : ℕ) (from : 1 ≤ x) (to : x ≤ 4) where
@@ -47,10 +48,10 @@ loop-x-preserved c =
     let to : l.x ≤ 4 = omega arith in (
       omega arith,
       omega arith,
-      ⊎_elim
-          (λ w. w.1 ∙ halves a.num a.den a.oversample l.x l.invariant.0 to l.left l.invariant.2 w.0.taken)
-          (λ w. w.1 ∙ keeps a.num a.den a.oversample l.x l.invariant.0 to l.left l.invariant.2 w.0.left)
-          c.if-x-den.branch,
+      elim c.if-x-den.branch [
+        | then-x-den w ↦ w.left-is ∙ halves a.num a.den a.oversample l.x l.invariant.0 to l.left l.invariant.2 w.if-x-den.true
+        | else-x-den w ↦ w.left-is ∙ keeps a.num a.den a.oversample l.x l.invariant.0 to l.left l.invariant.2 w.if-x-den.false
+      ],
     )
 
 pub returns : goal.returns
