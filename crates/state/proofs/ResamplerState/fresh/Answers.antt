@@ -2,12 +2,8 @@
 use mathlib.Core.Path.{refl}
 use lib.Ieee.{of_bits, of_int}
 use Rattle.state.specs.State.{fresh_state}
-use Rattle.state.proofs.ResamplerState.fresh.Statement.{statement}
-use Rattle.state.proofs.ResamplerState.fresh.Tie as tie
+use Rattle.state.proofs.ResamplerState.fresh.Goals as goal
 
-returns : tie.Need-returns
+pub returns : goal.returns
 unfolding fresh_state of_bits of_int
 returns c = refl
-
-pub fresh-spec : {M : Type 1} → statement M
-fresh-spec = tie.close (tie.spec returns)
