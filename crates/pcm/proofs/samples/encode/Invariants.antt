@@ -1,0 +1,19 @@
+-- `pcm::samples::encode` meets its contract. The invariant: the bytes of i samples are pasted over the start of `out`. The measure is how many samples
+-- are left. Assumes nothing.
+use mathlib.Core.Path.{ap, ◌∙◌}
+use Prim.Native.Nat.{ℕ, ◌-◌, ◌*◌, ◌/◌, ◌%◌}
+use native.Mathlib.Omega.{arith}
+use lib.ListN.{length-set}
+use mir.Syntax.{w16}
+use mir.ValLaws.{to_z-of_z}
+use Rattle.history.proofs.Pasted.{Pasted, starts, ends}
+use Rattle.sixteen.specs.Sixteen.{word_of}
+use Rattle.pcm.specs.Blocks.{bytes_of}
+use Rattle.pcm.proofs.Laid.{two_more, encodes}
+use Rattle.pcm.proofs.samples.encode.Given as goal
+
+abbrev pub invariant-loop-i : goal.invariant-loop-i
+invariant-loop-i l = Pasted l.initial.out 0 (bytes_of l.xs) (2 * l.count) l.out (2 * l.i)
+
+abbrev pub decreases-loop-i : goal.decreases-loop-i
+decreases-loop-i l = l.count - l.i
