@@ -4,8 +4,8 @@
 --     rest_entries                a part of a table holds the entries that the table holds from a on
 --     at_rest, from_rest          what is said of a part is said of the list from a on, and back
 --     rests_spread, rests_rows    the same for four parts at once
---     *-starts, *-holds           each window starts within the slice, and has its n samples there
---     *-before                    so do the samples of a window that come before the last one starts
+--     *_starts, *_holds           each window starts within the slice, and has its n samples there
+--     *_before                    so do the samples of a window that come before the last one starts
 -- Assumes nothing.
 use mathlib.Core.Path.{◌≡◌, sym, ap, ◌∙◌}
 use mathlib.Core.List.{List}
