@@ -44,7 +44,7 @@ loop-i-preserved c =
     let a = c.args in
     let e = c.smaller-count.ensures in
     let r = c.to_i16 in
-    let w = c.word_of-word.ensures ∙ ap word_of (to_z-of_z w16 r.result (record { sfits = r.type-inv }) ∙ r.ensures) in
+    let w = c.word_of-word.ensures ∙ ap word_of (to_z-of_z w16 r.result (record { sfits = r.type_inv }) ∙ r.ensures) in
     two_more a.xs.now a.out.now c.loop-i.out c.smaller-count.result c.loop-i.i _ _ c.loop-i.invariant (omega arith) (omega arith) (omega arith) (ap (λ (n : ℕ). n % 256) w) (ap (λ (n : ℕ). n / 256) w)
 
 pub overflow_mul-result : goal.overflow_mul-result
