@@ -1,0 +1,66 @@
+-- `rounds::runs::make_three` meets its contract: the fourth place is the third once more. Assumes nothing.
+use mathlib.Core.Path.{◌≡◌, refl}
+use native.Mathlib.Omega.{arith}
+use lib.ListN.{length-set}
+use borrow.Author.Rules.{rules}
+use Rattle.timeline.specs.Numbers.{ahead}
+use Rattle.rates.specs.Rated.{rate_with}
+use Rattle.rounds.specs.Rounds.{place_of}
+use Rattle.rounds.proofs.Running.{here, later, one_on, three_on}
+use Rattle.rounds.proofs.runs.make_three.Goals as goal
+use Rattle.rounds.proofs.runs.make_three.Goals.{After-advance-b, After-advance-c}
+
+-- the second and the third place, each from the one before
+place-b : (c : After-advance-b) →
+    let x = c.args in
+    place_of c.advance-b.result ≡ ahead (rate_with x.setting 0) 1 (place_of x.before.place)
+place-b c = c.advance-b.ensures
+
+place-c : (c : After-advance-c) →
+    let x = c.args in
+    place_of c.advance-c.result ≡ ahead (rate_with x.setting 0) 2 (place_of x.before.place)
+place-c c =
+    let x = c.args in
+    one_on (rate_with x.setting 0) 1 (place_of x.before.place) (place-b (goal.at-After-advance-c c).After-advance-b) c.advance-c.ensures
+
+pub advance-b-requires : goal.advance-b-requires
+advance-b-requires c =
+    let f = c.requires.0 in
+    let a = here 0 f refl (omega arith) in
+    (f.playable, a.phase, omega (arith, a.position))
+
+pub advance-c-requires : goal.advance-c-requires
+advance-c-requires c =
+    let f = c.requires.0 in
+    let b = here 1 f (place-b c) (omega arith) in
+    (f.playable, b.phase, omega (arith, b.position))
+
+pub output_four-y-requires : goal.output_four-y-requires
+output_four-y-requires c =
+    let x = c.args in
+    let f = c.requires.0 in
+    let r = rate_with x.setting 0 in
+    let ab = later r (place_of x.before.place) c.advance-b.ensures in
+    let bc = later r (place_of c.advance-b.result) c.advance-c.ensures in
+    let a = here 0 f refl (omega arith) in
+    let b = here 1 f (place-b (goal.at-output_four-y-requires c).After-advance-b) (omega arith) in
+    let third = here 2 f (place-c c) (omega arith) in
+    record { playable = (f.playable, f.table, ab, omega (arith, ab, bc), bc, omega arith); stands = (a, b, third, third) }
+
+pub bounds-out-i-2 : goal.bounds-out-i-2
+bounds-out-i-2 c = rw length-set (omega arith)
+
+pub bounds-out-i-3 : goal.bounds-out-i-3
+bounds-out-i-3 c = rw (length-set, length-set) (omega arith)
+
+pub advance-requires : goal.advance-requires
+advance-requires c =
+    let f = c.requires.0 in
+    let third = here 2 f (place-c (goal.at-advance-requires c).After-advance-c) (omega arith) in
+    (f.playable, third.phase, omega (arith, third.position))
+
+pub returns : goal.returns
+returns c p was f =
+    let x = c.args in
+    three_on x.setting x.coefs.now x.mem.now p x.count was x.before.written (place_of c.advance-c.result) f c.requires.1 (omega (arith, f.same, c.requires.2))
+    c.output_four-y.ensures c.advance-b.ensures c.advance-c.ensures c.advance.ensures
