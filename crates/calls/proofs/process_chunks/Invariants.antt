@@ -1,0 +1,22 @@
+-- `calls::process_chunks` plays the rounds over the input: the invariant is `Playing`, and what is left of the input and of the room falls.
+-- Assumes nothing.
+use mathlib.Core.Logic.{inl, inr}
+use Prim.Native.Nat.{◌+◌, ◌-◌}
+use native.Mathlib.Omega.{arith}
+use lib.ListN.{length}
+use borrow.Author.Rules.{rules}
+use borrow.Author.Tests.{ltb-true, ltb-false}
+use Rattle.kernel.proofs.Parts.{rest}
+use Rattle.rates.specs.Rated.{rate_with}
+use Rattle.rounds.specs.Output.{weigh_of}
+use Rattle.rounds.specs.Rounds.{place_of, turn_of}
+use Rattle.calls.proofs.Asks.{fit, slow, fits_at}
+use Rattle.calls.proofs.Onward.{put_back}
+use Rattle.calls.proofs.Playing.{Playing, Turned, begins, ends, goes_on}
+use Rattle.calls.proofs.process_chunks.Given as goal
+
+abbrev pub invariant-loop-read : goal.invariant-loop-read
+invariant-loop-read l = Playing (weigh_of l.setting l.coefs) (rate_with l.setting l.alloc) l.input l.initial.mem l.initial.out (place_of l.initial.place) l.read l.done (place_of l.place) l.mem l.out
+
+abbrev pub decreases-loop-read : goal.decreases-loop-read
+decreases-loop-read l = length l.input - l.read + (length l.initial.out - l.done)
