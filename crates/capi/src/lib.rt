@@ -13,7 +13,7 @@ ghost use Rattle.sixteen.specs.Sixteen.{from_i16, to_i16};
 ghost use Rattle.resampler.specs.Entries.{new_told, skip_told};
 ghost use Rattle.recording.specs.Totals.{closed_total_told};
 ghost use Rattle.flat.specs.Flat.{flat_told, flat_call, flat_total};
-ghost use Rattle.capi.specs.Contracts.{FlatSetsRate, FlatProcesses, FlatResets, needed_sizes};
+ghost use Rattle.capi.specs.Promises.{FlatSetsRate, FlatProcesses, FlatResets, needed_sizes};
 
 use flat::{FlatAnswer, FlatSizes, FlatState, FlatTotal};
 use quality::QualityMapping;

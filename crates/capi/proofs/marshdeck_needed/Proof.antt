@@ -9,7 +9,7 @@ use Rattle.quality.specs.House.{house}
 use Rattle.quality.proofs.House.{house_sane}
 use Rattle.rates.proofs.Limits.{limits}
 use Rattle.rates.proofs.House.{house_length}
-use Rattle.capi.specs.Contracts.{needed_sizes}
+use Rattle.capi.specs.Promises.{needed_sizes}
 use Rattle.capi.proofs.marshdeck_needed.Statement.{statement}
 use Rattle.capi.proofs.marshdeck_needed.Tie as tie
 

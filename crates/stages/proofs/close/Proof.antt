@@ -3,7 +3,7 @@ use mathlib.Core.Path.{sym}
 use lib.Seq.{length-take-le}
 use native.Mathlib.Omega.{arith}
 use Rattle.edges.proofs.Laws.{zeros_to}
-use Rattle.stages.specs.Contracts.{bare_stage}
+use Rattle.stages.specs.Promises.{bare_stage}
 use Rattle.stages.proofs.Laws.{zeros_fit, closes}
 use Rattle.stages.proofs.close.Statement.{statement}
 use Rattle.stages.proofs.close.Tie as tie
