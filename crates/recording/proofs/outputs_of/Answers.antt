@@ -8,8 +8,7 @@ use Rattle.ratio.specs.declared.Ratio.{Ratio}
 use Rattle.sizes.specs.Sizes.{InLimits, RatioInLimits}
 use Rattle.rates.proofs.Limits.{ratio_in_limits}
 use Rattle.recording.specs.Totals.{max_samples}
-use Rattle.recording.proofs.outputs_of.Statement.{statement}
-use Rattle.recording.proofs.outputs_of.Tie as tie
+use Rattle.recording.proofs.outputs_of.Goals as goal
 
 -- a ratio and a count whose product and sum fit
 record Small (samples : ℕ) (r : Ratio) : Type 0 where
@@ -24,23 +23,17 @@ small {source} {target} {samples} {r} p e =
     let terms : RatioInLimits r.num r.den = rw e (ratio_in_limits source target p.0 p.1) in
     record { num_from = terms.num_from; num_to = terms.num_to; product_to = mul-le-mul p.2 terms.den_to }
 
-simplify-requires : tie.Need-simplify-requires
-simplify-requires c κs = omega arith
+pub overflow_mul-result : goal.overflow_mul-result
+overflow_mul-result c = omega (arith, small c.requires c.simplify-ratio.ensures)
 
-mul-result : tie.Need-overflow-mul-result
-mul-result c = omega (arith, small c.before.requires c.simplify.ensures)
+pub overflow_add-result : goal.overflow_add-result
+overflow_add-result c = omega (arith, small c.requires c.simplify-ratio.ensures)
 
-add-result : tie.Need-overflow-add-result
-add-result c = omega (arith, small c.before.requires c.simplify.ensures)
+pub overflow_sub-result : goal.overflow_sub-result
+overflow_sub-result c = omega (arith, small c.requires c.simplify-ratio.ensures)
 
-sub-result : tie.Need-overflow-sub-result
-sub-result c = omega (arith, small c.before.requires c.simplify.ensures)
+pub nonzero_div-result : goal.nonzero_div-result
+nonzero_div-result c = omega (arith, small c.requires c.simplify-ratio.ensures)
 
-div-result : tie.Need-nonzero-div-result
-div-result c = omega (arith, small c.before.requires c.simplify.ensures)
-
-returns : tie.Need-returns
-returns c = rw c.simplify.ensures
-
-pub outputs-of-spec : {M : Type 1} → statement M
-outputs-of-spec = tie.close (tie.spec simplify-requires mul-result add-result sub-result div-result returns)
+pub returns : goal.returns
+returns c = rw c.simplify-ratio.ensures
