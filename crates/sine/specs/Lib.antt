@@ -1,2 +1,3 @@
 -- The sine, step by step. Assumes nothing.
 pub mod Sine
+pub mod Halving

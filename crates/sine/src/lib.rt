@@ -4,7 +4,13 @@
 #![tactic(auto)]
 
 ghost use Rattle.std.specs.Prelude.{◌≡◌};
-ghost use Rattle.sine.specs.Sine.{reduced, series, sine_at};
+ghost use Rattle.std.specs.Float.{binary64};
+ghost use Rattle.std.specs.Float.Ieee.{rem};
+ghost use Rattle.math.specs.Numerals.{as_f64};
+ghost use Rattle.math.specs.Operators.{◌*ᵈ◌};
+ghost use Rattle.math.specs.Sign.{magnitude};
+ghost use Rattle.sine.specs.Halving.{Halves};
+ghost use Rattle.sine.specs.Sine.{C, reduced, series, sine_at};
 
 use math::{abs, times_sign};
 
@@ -19,11 +25,41 @@ struct Reduced {
     flip: bool,
 }
 
+// The remainder of x by y, by halves: what twice y leaves of x, less y if that is not below it. Each
+// difference is exact. `k` is how often y can still be doubled; doubled once more it is above x.
+// (`%` is not used, since it becomes the C library's `fmod`, in a version that many systems lack.)
+fn remainder(x: f64, y: f64, k: u32) -> f64
+    requires { Halves x y k }
+    ensures { result ≡ rem binary64 x y }
+{
+    if x < y {
+        return x;
+    }
+    if k == 0 {
+        return x - y;
+    }
+    let r = remainder(x, y + y, k - 1);
+    if r < y { r } else { r - y }
+}
+
+// The remainder of a's magnitude by a whole turn; a NaN at an infinity or a NaN. A turn doubled 1021
+// times is an f64 still, and doubled once more it is above all of them.
+fn turned(a: f64) -> f64
+    ensures { result ≡ rem binary64 (magnitude a) (as_f64 2 *ᵈ C) }
+{
+    let v = abs(a);
+    if v < f64::INFINITY {
+        remainder(v, 2.0 * PI, 1021)
+    } else {
+        v - v
+    }
+}
+
 // At an infinity or a NaN r is a NaN, and nothing is flipped.
 fn reduce(a: f64) -> Reduced
     ensures { result ≡ reduced a }
 {
-    let turn = abs(a) % (2.0 * PI);
+    let turn = turned(a);
     let flip = turn >= PI;
     let half = if flip { turn - PI } else { turn };
     let r = if half > PI / 2.0 { PI - half } else { half };

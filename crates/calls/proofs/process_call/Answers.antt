@@ -2,7 +2,6 @@
 use Prim.Native.Nat.{◌-◌, ◌≤◌}
 use native.Mathlib.Omega.{arith}
 use lib.ListN.{length, take, drop, length-take}
-use borrow.Author.Rules.{rules}
 use Rattle.kernel.proofs.Parts.{rest}
 use Rattle.rates.specs.Rated.{rate_with}
 use Rattle.rounds.specs.Output.{weigh_of}
@@ -22,30 +21,30 @@ within c =
     (c.process_magic-first.ensures a.alloc)
 
 pub process_magic-first-requires : goal.process_magic-first-requires
-process_magic-first-requires c = 
+process_magic-first-requires c =
     let f = c.requires in round_fits f c.args.magic f.magic
 
 pub returns-then-first-gt0 : goal.returns-then-first-gt0
-returns-then-first-gt0 c = 
+returns-then-first-gt0 c =
     let a = c.args in
     left_wrote (weigh_of a.setting a.coefs.now) (rate_with a.setting a.alloc) a.magic
     (length a.out.now) (place_of a.place) a.mem.now
     (c.process_magic-first.ensures a.alloc) a.input.now c.if-first-gt0.true
 
 pub offset_bounds-out-done : goal.offset_bounds-out-done
-offset_bounds-out-done c = 
+offset_bounds-out-done c =
     omega (arith, within (goal.at-offset_bounds-out-done c).After-process_magic-first, c.well_formed)
 
 pub slice_bounds-process_chunks-count : goal.slice_bounds-process_chunks-count
-slice_bounds-process_chunks-count c = 
+slice_bounds-process_chunks-count c =
     omega (arith, within (goal.at-slice_bounds-process_chunks-count c).After-process_magic-first, c.process_magic-first.auto)
 
 pub slice_bounds-process_chunks-start : goal.slice_bounds-process_chunks-start
-slice_bounds-process_chunks-start c = 
+slice_bounds-process_chunks-start c =
     omega (arith, within (goal.at-slice_bounds-process_chunks-start c).After-process_magic-first, c.process_magic-first.auto)
 
 pub process_chunks-turn-requires : goal.process_chunks-turn-requires
-process_chunks-turn-requires c = 
+process_chunks-turn-requires c =
     let a = c.args in
     let f = c.requires in
     let w = c.process_magic-first.ensures a.alloc in
@@ -57,7 +56,7 @@ process_chunks-turn-requires c =
     c.process_magic-first.auto.mem
 
 pub overflow_add-written : goal.overflow_add-written
-overflow_add-written c = 
+overflow_add-written c =
     let a = c.args in
     let out = c.process_magic-first.new.out in
     let done = c.process_magic-first.result.turn.written.0 in
@@ -66,7 +65,7 @@ overflow_add-written c =
     omega (arith, fits, length-take (length out - done) (drop done out), c.process_magic-first.auto.out, within (goal.at-overflow_add-written c).After-process_magic-first, c.well_formed)
 
 pub returns : goal.returns
-returns c = 
+returns c =
     let a = c.args in
     let out = c.process_magic-first.new.out in
     let done = c.process_magic-first.result.turn.written.0 in

@@ -1,10 +1,8 @@
 -- `calls::process_chunk` plays the first round over the input. Assumes nothing.
 use mathlib.Core.Path.{◌≡◌}
-use mathlib.Core.Logic.{inl, inr}
 use Prim.Native.Nat.{◌-◌, min}
 use native.Mathlib.Omega.{arith}
 use lib.ListN.{length}
-use borrow.Author.Rules.{rules}
 use Rattle.rates.specs.Rated.{rate_with}
 use Rattle.rounds.specs.Output.{weigh_of}
 use Rattle.rounds.specs.Rounds.{place_of}
@@ -19,18 +17,18 @@ count-is : (c : Joined-input-most)
 count-is c = elim c.if-input-most.branch [ then-input-most w ↦ omega (arith, w.if-input-most.true, w.count-is) | else-input-most w ↦ omega (arith, w.if-input-most.false, w.count-is) ]
 
 pub copy_in-requires : goal.copy_in-requires
-copy_in-requires c = 
+copy_in-requires c =
     let f = c.requires in
     (omega (arith, count-is (goal.at-copy_in-requires c).Joined-input-most, f.chunk, f.lent), omega (arith, count-is (goal.at-copy_in-requires c).Joined-input-most))
 
 pub process_native-requires : goal.process_native-requires
-process_native-requires c = 
+process_native-requires c =
     let f = c.requires in
     round_fits (fits_at f f.phase f.position c.copy_in.auto.mem) c.if-input-most.count
     (omega (arith, count-is (goal.at-process_native-requires c).Joined-input-most, f.chunk))
 
 pub returns : goal.returns
-returns c = 
+returns c =
     let a = c.args in
     chunk_wrote (weigh_of a.setting a.coefs.now) (rate_with a.setting a.alloc) a.input.now
     (length a.out.now) (place_of a.place) a.mem.now

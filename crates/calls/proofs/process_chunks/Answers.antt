@@ -1,18 +1,15 @@
 -- `calls::process_chunks` plays the rounds over the input: the invariant is `Playing`, and what is left of the input and of the room falls.
 -- Assumes nothing.
 use mathlib.Core.Logic.{inl, inr}
-use Prim.Native.Nat.{◌+◌, ◌-◌}
 use native.Mathlib.Omega.{arith}
-use lib.ListN.{length}
-use borrow.Author.Rules.{rules}
-use borrow.Author.Tests.{ltb-true, ltb-false}
+use borrow.Author.Tests.{ltb-false}
 use Rattle.kernel.proofs.Parts.{rest}
 use Rattle.rates.specs.Rated.{rate_with}
 use Rattle.rounds.specs.Output.{weigh_of}
 use Rattle.rounds.specs.Rounds.{place_of, turn_of}
 use Rattle.calls.proofs.Asks.{fit, slow, fits_at}
 use Rattle.calls.proofs.Onward.{put_back}
-use Rattle.calls.proofs.Playing.{Playing, Turned, begins, ends, goes_on}
+use Rattle.calls.proofs.Playing.{Turned, begins, ends, goes_on}
 use Rattle.calls.proofs.process_chunks.Goals as goal
 use Rattle.calls.proofs.process_chunks.Goals.{After-process_chunk-turn}
 
@@ -41,7 +38,7 @@ pub slice_bounds-process_chunk-count-in-loop-read : goal.slice_bounds-process_ch
 slice_bounds-process_chunk-count-in-loop-read c = let v = c.loop-read.invariant in omega (arith, v.fits, v.long)
 
 pub process_chunk-turn-requires : goal.process_chunk-turn-requires
-process_chunk-turn-requires c = 
+process_chunk-turn-requires c =
     fits_at c.requires c.loop-read.invariant.phase c.loop-read.invariant.position c.loop-read.invariant.sized
 
 pub overflow_add-read : goal.overflow_add-read
@@ -54,7 +51,7 @@ pub loop-read-smaller : goal.loop-read-smaller
 loop-read-smaller c = (turned (goal.at-loop-read-smaller c).After-process_chunk-turn).less
 
 pub loop-read-preserved : goal.loop-read-preserved
-loop-read-preserved c = 
+loop-read-preserved c =
     rw (put_back c.loop-read.done c.loop-read.out c.process_chunk-turn.new.out) (turned (goal.at-loop-read-preserved c).After-process_chunk-turn).again
 
 pub shape_of-mem-else-done-out : goal.shape_of-mem-else-done-out
@@ -64,7 +61,7 @@ pub shape_of-out-else-done-out : goal.shape_of-out-else-done-out
 shape_of-out-else-done-out c = c.loop-read.invariant.long
 
 pub returns-else-done-out : goal.returns-else-done-out
-returns-else-done-out c = 
+returns-else-done-out c =
     let v = c.loop-read.invariant in ends _ _ _ _ _ _ v (inr (omega (arith, ltb-false, v.long)))
 
 pub shape_of-mem-after-loop-read : goal.shape_of-mem-after-loop-read

@@ -1,18 +1,11 @@
 -- `calls::process_chunks` plays the rounds over the input: the invariant is `Playing`, and what is left of the input and of the room falls.
 -- Assumes nothing.
-use mathlib.Core.Logic.{inl, inr}
 use Prim.Native.Nat.{◌+◌, ◌-◌}
-use native.Mathlib.Omega.{arith}
 use lib.ListN.{length}
-use borrow.Author.Rules.{rules}
-use borrow.Author.Tests.{ltb-true, ltb-false}
-use Rattle.kernel.proofs.Parts.{rest}
 use Rattle.rates.specs.Rated.{rate_with}
 use Rattle.rounds.specs.Output.{weigh_of}
-use Rattle.rounds.specs.Rounds.{place_of, turn_of}
-use Rattle.calls.proofs.Asks.{fit, slow, fits_at}
-use Rattle.calls.proofs.Onward.{put_back}
-use Rattle.calls.proofs.Playing.{Playing, Turned, begins, ends, goes_on}
+use Rattle.rounds.specs.Rounds.{place_of}
+use Rattle.calls.proofs.Playing.{Playing}
 use Rattle.calls.proofs.process_chunks.Given as goal
 
 abbrev pub invariant-loop-read : goal.invariant-loop-read

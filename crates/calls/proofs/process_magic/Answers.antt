@@ -2,7 +2,6 @@
 use Prim.Native.Nat.{◌≤◌}
 use native.Mathlib.Omega.{arith}
 use lib.ListN.{length}
-use borrow.Author.Rules.{rules}
 use Rattle.rates.specs.Rated.{rate_with}
 use Rattle.rounds.specs.Output.{weigh_of}
 use Rattle.rounds.specs.Rounds.{place_of}
@@ -19,7 +18,7 @@ within c =
     (c.process_native-turn.ensures 0)
 
 pub returns-then-magic-eq0 : goal.returns-then-magic-eq0
-returns-then-magic-eq0 c alloc = 
+returns-then-magic-eq0 c alloc =
     let a = c.args in
     none_wrote (weigh_of a.setting a.coefs.now) (rate_with a.setting alloc) a.magic
     (length a.out.now) (place_of a.place) a.mem.now
@@ -29,15 +28,15 @@ pub overflow_sub-left : goal.overflow_sub-left
 overflow_sub-left c = within (goal.at-overflow_sub-left c).After-process_native-turn
 
 pub overflow_add-at : goal.overflow_add-at
-overflow_add-at c = 
+overflow_add-at c =
     omega (arith, within (goal.at-overflow_add-at c).After-process_native-turn, c.requires.samples_to, c.requires.playable.n_to)
 
 pub move_down-requires : goal.move_down-requires
-move_down-requires c = 
+move_down-requires c =
     (omega arith, omega (arith, within (goal.at-move_down-requires c).After-process_native-turn, c.process_native-turn.auto, c.requires.samples))
 
 pub returns : goal.returns
-returns c alloc = 
+returns c alloc =
     let a = c.args in
     some_wrote (weigh_of a.setting a.coefs.now) (rate_with a.setting alloc) a.magic
     (length a.out.now) (place_of a.place) a.mem.now

@@ -1,7 +1,6 @@
 -- `filter::fill_table` meets its contract: each arm writes the table of its kernel (`proofs/Settings.antt`). Assumes nothing.
 use mathlib.Core.List.{[]}
 use lib.Seq.{paste-zero}
-use borrow.Author.Rules.{rules}
 use Rattle.rates.specs.Setting.{coefficients_of}
 use Rattle.rates.specs.declared.Kernel.TheVariants.{Unset, Direct, Interpolated}
 use Rattle.filter.specs.Settings.{kernel_table}

@@ -1,7 +1,6 @@
 -- `judge::judge_new` meets its contract: the one test decides. Assumes nothing.
 use mathlib.Core.Path.{sym, ◌∙◌}
 use Rattle.judge.specs.Verdicts.{new_verdict}
-use borrow.Author.Rules.{rules}
 use Rattle.judge.proofs.judge_new.Goals as goal
 
 pub returns-then-in_limits : goal.returns-then-in_limits

@@ -11,7 +11,6 @@ use Rattle.state.specs.Belongs.{belongs_together}
 use Rattle.state.proofs.Belonging.{rated, rated_limits}
 use Rattle.judge.specs.Refusals.{max_call}
 use Rattle.judge.specs.Verdicts.{process_verdict}
-use borrow.Author.Rules.{rules}
 use Rattle.judge.proofs.judge_process.Goals as goal
 use Rattle.judge.proofs.judge_process.Goals.{After-setting, Else-coefs_len-setting, Else-in_len-eq0, Else-mem_len-state, Else-not-belongs, Else-state-eq0}
 

@@ -13,7 +13,6 @@ use Rattle.rates.proofs.Limits.{limits}
 use Rattle.state.specs.Belongs.{belongs_together}
 use Rattle.state.proofs.Belonging.{belongs_target}
 use Rattle.judge.specs.Verdicts.{history_after, rate_verdict}
-use borrow.Author.Rules.{rules}
 use Rattle.judge.proofs.judge_rate.Goals as goal
 use Rattle.judge.proofs.judge_rate.Goals.{After-history_after, Else-mem_len-history_after, Else-not-belongs, Else-not-in_limits, Else-state-source}
 

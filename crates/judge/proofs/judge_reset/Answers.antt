@@ -1,7 +1,6 @@
 -- `judge::judge_reset` meets its contract: each way out has the tests that the definition has. Assumes nothing.
 use borrow.Author.Tests.{lt-ltb, le-ltb}
 use Rattle.judge.specs.Verdicts.{reset_verdict}
-use borrow.Author.Rules.{rules}
 use Rattle.judge.proofs.judge_reset.Goals as goal
 
 pub returns-then-not-belongs : goal.returns-then-not-belongs

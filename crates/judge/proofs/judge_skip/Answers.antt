@@ -1,7 +1,6 @@
 -- `judge::judge_skip` meets its contract: the one test decides. Assumes nothing.
 use mathlib.Core.Path.{sym, ◌∙◌}
 use Rattle.judge.specs.Verdicts.{skip_verdict}
-use borrow.Author.Rules.{rules}
 use Rattle.judge.proofs.judge_skip.Goals as goal
 
 pub returns-then-belongs : goal.returns-then-belongs

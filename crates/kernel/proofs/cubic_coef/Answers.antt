@@ -3,7 +3,6 @@
 use lib.Ieee.{sub, of_bits}
 use Rattle.math.specs.Numerals.{decimal32}
 use Rattle.kernel.specs.Cubic.{cubic_coef}
-use Rattle.std.proofs.Common.{rules}
 use Rattle.kernel.proofs.cubic_coef.Goals as goal
 
 pub returns : goal.returns

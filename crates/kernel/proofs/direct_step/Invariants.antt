@@ -1,9 +1,7 @@
 -- `kernel::direct_step` meets its contract. The invariant: the sum is that of the first j products. The measure is how many are left.
 -- Assumes nothing.
-use Rattle.std.proofs.Common.{◌≡◌, ◌-◌, ◌≤◌, refl, arith}
-use lib.Ieee.{of_bits}
-use Rattle.kernel.specs.Sums.{sum_to, direct_sum}
-use Rattle.kernel.proofs.Turns.{sum_turn}
+use Rattle.std.proofs.Common.{◌≡◌, ◌-◌, ◌≤◌}
+use Rattle.kernel.specs.Sums.{direct_sum}
 use Rattle.kernel.proofs.direct_step.Given as goal
 
 abbrev pub invariant-loop-j : goal.invariant-loop-j

@@ -1,5 +1,5 @@
 -- `kernel::interpolate_step` meets its contract: the four sums over all n samples, and then their fold. Assumes nothing.
-use Rattle.std.proofs.Common.{refl, arith, rules}
+use Rattle.std.proofs.Common.{refl, arith}
 use lib.Ieee.{of_bits}
 use Rattle.kernel.specs.Interpolated.{four_sums}
 use Rattle.kernel.proofs.interpolate_step.Goals as goal

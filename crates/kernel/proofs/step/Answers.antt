@@ -1,6 +1,6 @@
 -- `kernel::step` meets its contract. In each arm `given.1` says which variant the phase is; `reaches_at` carries the `requires` over to it.
 -- Assumes nothing.
-use Rattle.std.proofs.Common.{◌+◌, ◌*◌, ◌≤◌, length, arith, length-drop, rules}
+use Rattle.std.proofs.Common.{◌+◌, ◌*◌, ◌≤◌, length, arith, length-drop}
 use Rattle.kernel.specs.Step.{step_of}
 use Rattle.kernel.proofs.Parts.{rest, reaches_at}
 use Rattle.kernel.proofs.step.Goals as goal
@@ -26,7 +26,7 @@ pub direct_step-requires : goal.direct_step-requires
 direct_step-requires c = rw (rest, length-drop) (omega (arith, row_fits (goal.at-direct_step-requires c).In-Direct))
 
 pub interpolate_step-requires : goal.interpolate_step-requires
-interpolate_step-requires c = 
+interpolate_step-requires c =
     let h = reaches_at _ _ _ c.in-Interpolated.is c.requires.reaches in omega arith
 
 pub returns-in-Direct : goal.returns-in-Direct

@@ -1,7 +1,6 @@
 -- `kernel::sums_on` meets its contract. The invariant: the sums are those of the first j samples, and the index is where the coefficients of
 -- sample j start. The measure is how many samples are left. Assumes nothing.
-use Rattle.std.proofs.Common.{◌≡◌, ◌+◌, ◌-◌, ◌*◌, ◌≤◌, refl, mul-le-mul_right, add-mul, one-mul, arith}
-use Rattle.kernel.specs.Interpolated.{tap, four_sums}
+use Rattle.std.proofs.Common.{◌≡◌, ◌+◌, ◌*◌, ◌≤◌, refl, mul-le-mul_right, add-mul, one-mul, arith}
 use Rattle.kernel.proofs.Turns.{four_turn, tap_turn, entries_within}
 use Rattle.kernel.proofs.sums_on.Goals as goal
 use Rattle.kernel.proofs.sums_on.Goals.{In-loop-j, Start}
@@ -34,7 +33,7 @@ pub overflow_add-idx-in-loop-j : goal.overflow_add-idx-in-loop-j
 overflow_add-idx-in-loop-j c = omega (arith, fits (goal.at-overflow_add-idx-in-loop-j c).In-loop-j)
 
 pub loop-j-preserved : goal.loop-j-preserved
-loop-j-preserved c = 
+loop-j-preserved c =
     let v = c.loop-j.invariant in
     (omega arith, tap_turn _ _ _ (omega (arith, c.requires)) v.1, four_turn _ _ _ _ _ v.1 v.2 c.spread-next.ensures)
 

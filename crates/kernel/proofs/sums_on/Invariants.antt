@@ -1,8 +1,7 @@
 -- `kernel::sums_on` meets its contract. The invariant: the sums are those of the first j samples, and the index is where the coefficients of
 -- sample j start. The measure is how many samples are left. Assumes nothing.
-use Rattle.std.proofs.Common.{◌≡◌, ◌+◌, ◌-◌, ◌*◌, ◌≤◌, refl, mul-le-mul_right, add-mul, one-mul, arith}
+use Rattle.std.proofs.Common.{◌≡◌, ◌-◌, ◌≤◌}
 use Rattle.kernel.specs.Interpolated.{tap, four_sums}
-use Rattle.kernel.proofs.Turns.{four_turn, tap_turn, entries_within}
 use Rattle.kernel.proofs.sums_on.Given as goal
 
 abbrev pub invariant-loop-j : goal.invariant-loop-j

@@ -1,6 +1,5 @@
 -- `pcm::has_mark` meets its contract: at each return the tests passed so far tell the bytes (`proofs/Ways.antt`). Assumes nothing.
 use Rattle.pcm.proofs.Ways.{mark_0, mark_1, mark_2}
-use borrow.Author.Rules.{rules}
 use Rattle.pcm.proofs.has_mark.Goals as goal
 
 pub returns-then-bytes-ne68 : goal.returns-then-bytes-ne68

@@ -2,7 +2,6 @@
 -- Assumes nothing.
 use native.Mathlib.Omega.{arith}
 use lib.ListN.{length}
-use borrow.Author.Rules.{rules}
 use Rattle.rounds.specs.Rounds.{Wrote}
 use Rattle.calls.specs.Calls.{called_of}
 use Rattle.process.specs.Process.{played}

@@ -1,5 +1,4 @@
 -- `resampler::new` meets its contract: each way out is a verdict's. Assumes nothing.
-use borrow.Author.Rules.{rules}
 use Rattle.resampler.specs.Entries.{new_told}
 use Rattle.resampler.proofs.new.Goals as goal
 

@@ -2,7 +2,6 @@
 use mathlib.Core.Path.{refl, sym, ◌∙◌}
 use native.Mathlib.Omega.{arith}
 use lib.ListN.{length}
-use borrow.Author.Rules.{rules}
 use Rattle.quality.specs.House.{house}
 use Rattle.quality.specs.declared.QualityMapping.{QualityMapping}
 use Rattle.quality.proofs.House.{house_sane}

@@ -1,5 +1,4 @@
 -- `resampler::skip_zeros` meets its contract: each way out is a verdict's. Assumes nothing.
-use borrow.Author.Rules.{rules}
 use Rattle.quality.specs.declared.QualityMapping.{QualityMapping}
 use Rattle.quality.proofs.House.{house_sane}
 use Rattle.judge.specs.Verdicts.{skip_verdict}

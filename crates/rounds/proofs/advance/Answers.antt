@@ -1,6 +1,5 @@
 -- `rounds::advance` meets its contract: quotient and remainder are added, and den den-ths make one sample more. Assumes nothing.
 use mathlib.Core.Path.{sym}
-use borrow.Author.Rules.{rules}
 use Rattle.timeline.proofs.Places.{next_plain, next_carried}
 use Rattle.rates.specs.Rated.{rate_with}
 use Rattle.rounds.specs.Rounds.{place_of}

@@ -1,7 +1,6 @@
 -- `rounds::output_at` meets its contract: the kernel is given the whole history from the position on, and only the first n entries of that count. Assumes nothing.
 use native.Mathlib.Omega.{arith}
 use lib.ListN.{length-take, length-drop}
-use borrow.Author.Rules.{rules}
 use Rattle.kernel.proofs.Parts.{rest}
 use Rattle.rounds.specs.Rounds.{place_of}
 use Rattle.rounds.proofs.Phases.{reaches, output_here}

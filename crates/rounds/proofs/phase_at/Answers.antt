@@ -1,6 +1,5 @@
 -- `rounds::phase_at` meets its contract: each arm is the definition at the variant that the match names. Assumes nothing.
 use native.Mathlib.Omega.{arith}
-use borrow.Author.Rules.{rules}
 use Rattle.rounds.specs.Output.{phase_by}
 use Rattle.rounds.proofs.Phases.{product_to, remainder_to}
 use Rattle.rounds.proofs.phase_at.Goals as goal

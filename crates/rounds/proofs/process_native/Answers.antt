@@ -1,9 +1,7 @@
 -- `rounds::process_native` meets its contract: the outputs, what they consume, and the move of the history make a round. Assumes nothing.
 use mathlib.Core.Path.{◌≡◌}
-use mathlib.Core.Logic.{⊎_elim}
 use Prim.Native.Nat.{min}
 use native.Mathlib.Omega.{arith}
-use borrow.Author.Rules.{rules}
 use Rattle.rounds.proofs.Running.{round_wrote}
 use Rattle.rounds.proofs.process_native.Goals as goal
 use Rattle.rounds.proofs.process_native.Goals.{Joined-end-in_len, else-end-in_len, then-end-in_len}

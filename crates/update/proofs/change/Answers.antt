@@ -1,6 +1,5 @@
 -- `update::change` meets its contract: a field for a field. Assumes nothing.
 use native.Mathlib.Omega.{arith}
-use borrow.Author.Rules.{rules}
 use Rattle.update.proofs.change.Goals as goal
 
 pub overflow_cast-result-6 : goal.overflow_cast-result-6

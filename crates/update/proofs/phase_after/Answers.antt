@@ -2,7 +2,6 @@
 use Prim.Native.Nat.{◌≤◌}
 use native.Mathlib.Nat.{mul-le-mul}
 use native.Mathlib.Omega.{arith}
-use borrow.Author.Rules.{rules}
 use Rattle.update.proofs.phase_after.Goals as goal
 
 pub _muldiv-scaled-requires : goal._muldiv-scaled-requires

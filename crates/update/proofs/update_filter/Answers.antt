@@ -2,7 +2,6 @@
 use mathlib.Core.Path.{ap}
 use native.Mathlib.Omega.{arith}
 use lib.ListN.{length}
-use borrow.Author.Rules.{rules}
 use Rattle.rates.specs.declared.Setting.{Setting}
 use Rattle.reshape.specs.declared.Change.{Change}
 use Rattle.update.proofs.Updates.{RateReady, rate_ready}

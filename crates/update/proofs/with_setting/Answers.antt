@@ -1,5 +1,4 @@
 -- `update::with_setting` meets its contract: a field for a field. Assumes nothing.
-use borrow.Author.Rules.{rules}
 use Rattle.update.specs.Updated.{with_setting}
 use Rattle.update.proofs.with_setting.Goals as goal
 

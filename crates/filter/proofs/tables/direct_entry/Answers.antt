@@ -2,7 +2,6 @@
 -- Assumes nothing.
 use native.Mathlib.Nat.{mod-lt, div-le_self, mod-le}
 use native.Mathlib.Omega.{arith}
-use borrow.Author.Rules.{rules}
 use Rattle.filter.specs.Tables.{direct_entry}
 use Rattle.filter.proofs.Mirrors.{row_within, spot_within, direct_mirror}
 use Rattle.filter.proofs.tables.direct_entry.Goals as goal

@@ -1,6 +1,5 @@
 -- `filter::tables::direct_x` meets its contract: its steps are the definition's. Assumes nothing.
 use lib.Ieee.{of_bits, of_int}
-use borrow.Author.Rules.{rules}
 use Rattle.filter.specs.Tables.{direct_x}
 use Rattle.filter.proofs.tables.direct_x.Goals as goal
 

@@ -1,7 +1,6 @@
 -- `filter::tables::interpolated_entry` meets its contract: it is the coefficient at its coordinate, and so is what the mirror image has written (`proofs/Mirrors.antt`).
 -- Assumes nothing.
 use native.Mathlib.Omega.{arith}
-use borrow.Author.Rules.{rules}
 use Rattle.filter.specs.Tables.{interpolated_entry}
 use Rattle.filter.proofs.Mirrors.{interpolated_mirror}
 use Rattle.filter.proofs.tables.interpolated_entry.Goals as goal

@@ -1,7 +1,6 @@
 -- `filter::tables::interpolated_x` meets its contract: its steps are the definition's, but for i - 4, which the definition takes as a whole number (`proofs/Shifted.antt`).
 -- Assumes nothing.
 use lib.Ieee.{of_bits, of_int}
-use borrow.Author.Rules.{rules}
 use Rattle.filter.specs.Tables.{interpolated_x}
 use Rattle.filter.proofs.Shifted.{minus_four}
 use Rattle.filter.proofs.tables.interpolated_x.Goals as goal

@@ -1,10 +1,8 @@
 -- `filter::tables::not_use_direct` meets its contract. The loop's invariant: i entries of the table are pasted.
 -- The measure is how many are left. Assumes nothing.
-use Prim.Native.Nat.{◌+◌, ◌*◌, ◌-◌}
 use native.Mathlib.Omega.{arith}
-use borrow.Author.Rules.{rules}
 use Rattle.filter.specs.Tables.{interpolated_table}
-use Rattle.history.proofs.Pasted.{Pasted, starts, ends}
+use Rattle.history.proofs.Pasted.{starts, ends}
 use Rattle.filter.proofs.Entries.{stored, next_fits}
 use Rattle.filter.proofs.tables.not_use_direct.Goals as goal
 

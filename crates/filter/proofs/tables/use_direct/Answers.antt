@@ -1,11 +1,9 @@
 -- `filter::tables::use_direct` meets its contract. The loop's invariant: k entries of the table are pasted.
 -- The measure is how many are left. Assumes nothing.
-use Prim.Native.Nat.{◌*◌, ◌-◌}
 use native.Mathlib.Nat.{le_refl}
 use native.Mathlib.Omega.{arith}
-use borrow.Author.Rules.{rules}
 use Rattle.filter.specs.Tables.{direct_table}
-use Rattle.history.proofs.Pasted.{Pasted, starts, ends}
+use Rattle.history.proofs.Pasted.{starts, ends}
 use Rattle.filter.proofs.Entries.{stored, next_fits}
 use Rattle.filter.proofs.tables.use_direct.Goals as goal
 

@@ -1,12 +1,8 @@
 -- `filter::tables::use_direct` meets its contract. The loop's invariant: k entries of the table are pasted.
 -- The measure is how many are left. Assumes nothing.
 use Prim.Native.Nat.{◌*◌, ◌-◌}
-use native.Mathlib.Nat.{le_refl}
-use native.Mathlib.Omega.{arith}
-use borrow.Author.Rules.{rules}
 use Rattle.filter.specs.Tables.{direct_table}
-use Rattle.history.proofs.Pasted.{Pasted, starts, ends}
-use Rattle.filter.proofs.Entries.{stored, next_fits}
+use Rattle.history.proofs.Pasted.{Pasted}
 use Rattle.filter.proofs.tables.use_direct.Given as goal
 
 abbrev pub invariant-loop-k : goal.invariant-loop-k

@@ -1,9 +1,8 @@
 -- `pcm::samples::decode` meets its contract. The invariant: i samples are pasted over the start of `out`. The measure is how many are left.
 -- Assumes nothing.
-use Prim.Native.Nat.{◌-◌}
 use native.Mathlib.Omega.{arith}
 use lib.Ieee.{nan}
-use Rattle.history.proofs.Pasted.{Pasted, starts, ends}
+use Rattle.history.proofs.Pasted.{starts, ends}
 use Rattle.pcm.specs.Blocks.{samples_of}
 use Rattle.pcm.proofs.Blocks.{length_samples}
 use Rattle.pcm.proofs.Laid.{one_more, decodes}

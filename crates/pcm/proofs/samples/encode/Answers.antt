@@ -1,12 +1,12 @@
 -- `pcm::samples::encode` meets its contract. The invariant: the bytes of i samples are pasted over the start of `out`. The measure is how many samples
 -- are left. Assumes nothing.
 use mathlib.Core.Path.{ap, ◌∙◌}
-use Prim.Native.Nat.{ℕ, ◌-◌, ◌*◌, ◌/◌, ◌%◌}
+use Prim.Native.Nat.{ℕ, ◌*◌, ◌/◌, ◌%◌}
 use native.Mathlib.Omega.{arith}
 use lib.ListN.{length-set}
 use mir.Syntax.{w16}
 use mir.ValLaws.{to_z-of_z}
-use Rattle.history.proofs.Pasted.{Pasted, starts, ends}
+use Rattle.history.proofs.Pasted.{starts, ends}
 use Rattle.sixteen.specs.Sixteen.{word_of}
 use Rattle.pcm.specs.Blocks.{bytes_of}
 use Rattle.pcm.proofs.Laid.{two_more, encodes}

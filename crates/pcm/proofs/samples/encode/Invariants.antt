@@ -1,15 +1,8 @@
 -- `pcm::samples::encode` meets its contract. The invariant: the bytes of i samples are pasted over the start of `out`. The measure is how many samples
 -- are left. Assumes nothing.
-use mathlib.Core.Path.{ap, ◌∙◌}
-use Prim.Native.Nat.{ℕ, ◌-◌, ◌*◌, ◌/◌, ◌%◌}
-use native.Mathlib.Omega.{arith}
-use lib.ListN.{length-set}
-use mir.Syntax.{w16}
-use mir.ValLaws.{to_z-of_z}
-use Rattle.history.proofs.Pasted.{Pasted, starts, ends}
-use Rattle.sixteen.specs.Sixteen.{word_of}
+use Prim.Native.Nat.{◌-◌, ◌*◌}
+use Rattle.history.proofs.Pasted.{Pasted}
 use Rattle.pcm.specs.Blocks.{bytes_of}
-use Rattle.pcm.proofs.Laid.{two_more, encodes}
 use Rattle.pcm.proofs.samples.encode.Given as goal
 
 abbrev pub invariant-loop-i : goal.invariant-loop-i

@@ -2,7 +2,6 @@
 use mathlib.Core.Path.{sym, ap, ◌∙◌}
 use mir.Syntax.{w16}
 use mir.ValLaws.{to_z-of_z}
-use borrow.Author.Rules.{rules}
 use Rattle.sixteen.specs.Sixteen.{sample_of, from_i16}
 use Rattle.pcm.proofs.Blocks.{get_or_samples}
 use Rattle.pcm.proofs.samples.sample_at.Goals as goal

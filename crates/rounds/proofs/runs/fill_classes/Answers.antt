@@ -1,18 +1,17 @@
 -- `rounds::runs::fill_classes` meets its contract. The invariant: the classes below `from` are made, and the next stands at the place. The measure
 -- is how many of the den classes are left. Assumes nothing.
-use mathlib.Core.Path.{◌≡◌, refl, sym}
+use mathlib.Core.Path.{refl, sym}
 use mathlib.Core.Logic.{inl, inr}
-use Prim.Native.Nat.{◌+◌, ◌-◌, ◌≤◌, ◌<◌}
+use Prim.Native.Nat.{◌+◌, ◌≤◌, ◌<◌}
 use native.Mathlib.Omega.{arith}
 use borrow.Author.Tests.{ltb-true, ltb-false}
 use lib.ListN.{length, length-drop}
-use Rattle.timeline.specs.Numbers.{ahead}
 use Rattle.kernel.proofs.Parts.{rest, reaches_at}
 use Rattle.rates.specs.Rated.{rate_with}
 use Rattle.rounds.specs.Rounds.{place_of}
 use Rattle.rounds.proofs.Phases.{reaches}
 use Rattle.rounds.proofs.Running.{here, one_on}
-use Rattle.rounds.proofs.Classes.{Classes, starts, goes_on, ends, after_first, class_fits, class_value}
+use Rattle.rounds.proofs.Classes.{starts, goes_on, ends, after_first, class_fits, class_value}
 use Rattle.rounds.proofs.runs.fill_classes.Goals as goal
 use Rattle.rounds.proofs.runs.fill_classes.Goals.{Start}
 

@@ -2,10 +2,8 @@
 use mathlib.Core.Path.{◌≡◌}
 use Prim.Native.Nat.{ℕ, ◌+◌, ◌-◌, ◌≤◌}
 use native.Mathlib.Omega.{arith}
-use borrow.Author.Tests.{eqb-true}
 use Rattle.rounds.specs.Rounds.{place_of}
 use Rattle.rounds.proofs.Running.{onward, recount}
-use borrow.Author.Rules.{rules}
 use Rattle.rounds.proofs.runs.make_abreast.Goals as goal
 
 at_most : {a b : ℕ} → a ≡ b → a ≤ b

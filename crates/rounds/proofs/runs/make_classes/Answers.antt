@@ -4,7 +4,6 @@ use native.Mathlib.Omega.{arith}
 use lib.ListN.{length, length-drop}
 use Rattle.kernel.proofs.Parts.{rest}
 use Rattle.rounds.proofs.Classes.{layout_fits}
-use borrow.Author.Rules.{rules}
 use Rattle.rounds.proofs.runs.make_classes.Goals as goal
 use Rattle.rounds.proofs.runs.make_classes.Goals.{Start}
 

@@ -1,13 +1,11 @@
 -- `rounds::runs::make_fours` meets its contract. The invariant: i outputs are made. The measure is how many are left. Assumes nothing.
 use mathlib.Core.Path.{◌≡◌}
-use Prim.Native.Nat.{◌+◌, ◌-◌}
+use Prim.Native.Nat.{◌+◌}
 use native.Mathlib.Omega.{arith}
 use lib.ListN.{length-set}
-use borrow.Author.Rules.{rules}
 use Rattle.timeline.specs.Numbers.{ahead}
 use Rattle.rates.specs.Rated.{rate_with}
 use Rattle.rounds.specs.Rounds.{place_of}
-use Rattle.rounds.specs.Runs.{Ran}
 use Rattle.rounds.proofs.Running.{here, later, one_on, starts, four_on}
 use Rattle.rounds.proofs.runs.make_fours.Goals as goal
 use Rattle.rounds.proofs.runs.make_fours.Goals.{After-advance-b, After-advance-c, After-advance-d}

@@ -8,7 +8,6 @@ use Rattle.timeline.proofs.Places.{made_fits}
 use Rattle.rates.specs.Rated.{rate_with}
 use Rattle.rounds.specs.Rounds.{place_of}
 use Rattle.rounds.proofs.Running.{numbered, run_fits, ends, renamed}
-use borrow.Author.Rules.{rules}
 use Rattle.rounds.proofs.runs.make_outputs.Goals as goal
 use Rattle.rounds.proofs.runs.make_outputs.Goals.{Start}
 

@@ -1,16 +1,12 @@
 -- `rounds::runs::make_rest` meets its contract. The invariant: what is made goes on what was, for any start of the run. The measure is how many
 -- outputs are left. Assumes nothing.
 use mathlib.Core.Path.{◌≡◌, refl, sym, ap, ◌∙◌}
-use mathlib.Core.List.{List}
-use Prim.Native.Nat.{ℕ, ◌+◌, ◌-◌, ◌≤◌}
+use Prim.Native.Nat.{ℕ, ◌+◌, ◌-◌}
 use native.Mathlib.Omega.{arith}
-use lib.ListN.{length, length-set}
-use lib.Ieee.{Float}
-use Rattle.timeline.specs.Numbers as numbers
+use lib.ListN.{length-set}
 use Rattle.timeline.specs.Numbers.{ahead}
 use Rattle.rates.specs.Rated.{rate_with}
 use Rattle.rounds.specs.Rounds.{place_of}
-use Rattle.rounds.specs.Runs.{Ran}
 use Rattle.rounds.proofs.Running.{here, one_on, recount, goes_on}
 use Rattle.rounds.proofs.runs.make_rest.Goals as goal
 

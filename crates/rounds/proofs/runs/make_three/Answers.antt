@@ -2,7 +2,6 @@
 use mathlib.Core.Path.{◌≡◌, refl}
 use native.Mathlib.Omega.{arith}
 use lib.ListN.{length-set}
-use borrow.Author.Rules.{rules}
 use Rattle.timeline.specs.Numbers.{ahead}
 use Rattle.rates.specs.Rated.{rate_with}
 use Rattle.rounds.specs.Rounds.{place_of}

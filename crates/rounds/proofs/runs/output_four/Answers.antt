@@ -6,7 +6,6 @@ use Rattle.kernel.proofs.Parts.{rest, reaches_at}
 use Rattle.abreast.proofs.Four.{four_is}
 use Rattle.rounds.specs.Rounds.{place_of}
 use Rattle.rounds.proofs.Phases.{reaches, output_here, output_from}
-use borrow.Author.Rules.{rules}
 use Rattle.rounds.proofs.runs.output_four.Goals as goal
 
 pub step_four-requires : goal.step_four-requires

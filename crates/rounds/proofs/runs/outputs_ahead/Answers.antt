@@ -3,7 +3,6 @@
 use mathlib.Core.Path.{sym}
 use Prim.Native.Nat.{ℕ, ◌-◌, ◌*◌, ◌<◌}
 use native.Mathlib.Omega.{arith}
-use borrow.Author.Rules.{rules}
 use Rattle.timeline.specs.Numbers.{Rate, Place}
 use Rattle.timeline.proofs.Places.{made_none}
 use Rattle.rates.specs.Rated.{rate_with}

@@ -3,7 +3,6 @@ use mathlib.Core.Path.{sym}
 use Prim.Native.Nat.{◌+◌, ◌*◌}
 use native.Mathlib.Nat.{div-le_self}
 use native.Mathlib.Omega.{arith}
-use borrow.Author.Rules.{rules}
 use Rattle.timeline.proofs.Places.{ahead_is}
 use Rattle.rates.specs.Rated.{rate_with}
 use Rattle.rounds.specs.Rounds.{place_of}

@@ -3,7 +3,6 @@ use mathlib.Core.Path.{refl}
 use Prim.Native.Nat.{◌+◌, ◌-◌, ◌*◌}
 use native.Mathlib.Nat.{div-le_self}
 use native.Mathlib.Omega.{arith}
-use borrow.Author.Rules.{rules}
 use Rattle.rounds.proofs.Counts.{span_before}
 use Rattle.rounds.proofs.runs.weave_for.Goals as goal
 

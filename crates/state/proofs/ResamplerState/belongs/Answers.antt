@@ -2,7 +2,6 @@
 use native.Mathlib.Omega.{arith}
 use borrow.Author.Tests.{eq-eqb, ne_eqb}
 use Rattle.state.specs.Belongs.{belongs_together}
-use borrow.Author.Rules.{rules}
 use Rattle.state.proofs.ResamplerState.belongs.Goals as goal
 
 pub returns-then-self-eq0 : goal.returns-then-self-eq0

@@ -2,7 +2,6 @@
 use native.Mathlib.Omega.{arith}
 use Rattle.state.specs.State.{fresh_state}
 use Rattle.state.specs.Belongs.{fresh_tests}
-use borrow.Author.Rules.{rules}
 use Rattle.state.proofs.ResamplerState.belongs_fresh.Goals as goal
 
 pub setting-requires : goal.setting-requires

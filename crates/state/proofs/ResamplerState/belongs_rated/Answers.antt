@@ -4,7 +4,6 @@ use mathlib.Core.Bool.{true, ◌&&◌}
 use Rattle.sizes.specs.Sizes.{in_limits}
 use Rattle.sizes.proofs.Tests.{both, test_passed}
 use Rattle.state.proofs.Belonging.{in_limits_rest, out_of_limits}
-use borrow.Author.Rules.{rules}
 use Rattle.state.proofs.ResamplerState.belongs_rated.Goals as goal
 use Rattle.state.proofs.ResamplerState.belongs_rated.Goals.{Then-in_limits}
 

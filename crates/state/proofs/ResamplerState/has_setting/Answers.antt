@@ -1,6 +1,5 @@
 -- `state::ResamplerState::has_setting` meets its contract: the tests in the order of the list. Assumes nothing.
 use Rattle.state.specs.Belongs.{setting_tests}
-use borrow.Author.Rules.{rules}
 use Rattle.state.proofs.ResamplerState.has_setting.Goals as goal
 
 pub returns : goal.returns

@@ -1,7 +1,6 @@
 -- `state::ResamplerState::in_place` meets its contract: the tests in the order of the list. Assumes nothing.
 use native.Mathlib.Nat.{add-zero}
 use Rattle.state.specs.Belongs.{place_tests}
-use borrow.Author.Rules.{rules}
 use Rattle.state.proofs.ResamplerState.in_place.Goals as goal
 
 pub returns : goal.returns

@@ -1,5 +1,4 @@
 -- `state::ResamplerState::setting` meets its contract: the count of coefficients is the callee's. Assumes nothing.
-use borrow.Author.Rules.{rules}
 use Rattle.state.proofs.ResamplerState.setting.Goals as goal
 
 pub returns : goal.returns
