@@ -2,7 +2,8 @@
 """Respells the repository's own definitions, lemmas and fields of records: words in snake case, types in camel case, and a dash only
 where it joins two names. usage: tools/respell.py [--list], at the top of the repository, once, after the kit's port.py. It goes by text: a
 name is a whole token of an .antt file, of a clause or a `ghost use` of an .rt file, of an .edit file, or between backticks in a page of
-docs/ and README.md; behind a dot only a field turns, but for those pages.
+docs/ and README.md; behind a dot only a field turns, or a word of a module that the file takes by `as`; in those pages
+all words turn.
 Functions of src/ keep their names, and so does all else of src/. A definition may have its function's name; a lemma that would have the
 name of another word gets `_lem`.
 """
@@ -158,14 +159,21 @@ def main(argv):
     def named(m):
         return words.get(m[0], parts.get(m[0], m[0]))
 
+    modules = set()
+
     def name(m):
         if m.start() and m.string[m.start() - 1] == ".":
+            before = re.search(r"([\w\-]+)\.$", m.string[: m.start()])
+            if before and before[1] in modules:
+                return named(m)
             return parts.get(m[0], m[0])
         return named(m)
 
     turn = lambda s: TOKEN.sub(name, s)
     for path in files((".antt", ".rt", ".edit")):
         old = open(path, encoding="utf-8").read()
+        modules.clear()
+        modules.update(re.findall(r"^use Rattle\.[\w.]+ as (\w+)$", old, re.M))
         if path.endswith(".rt"):
             new = in_source(old, turn)
         else:

@@ -157,7 +157,7 @@ def _load() -> ctypes.CDLL:
     path = folder.resolve() / "libmarshdeck.so"
     if not path.is_file():
         raise ImportError(
-            f"{path} is missing: make it with `rt staticlib capi` at the repository's root and then bindings/python/build, "
+            f"{path} is missing: make it with `tools/archive` at the repository's root and then bindings/python/build, "
             "or name its folder in MARSHDECK_LIB"
         )
     library = ctypes.CDLL(str(path))

@@ -1,4 +1,4 @@
-//! Links libcapi.a, which `rt staticlib capi` writes, from the repository's target/staticlib or from the folder that
+//! Links libcapi.a, which `tools/archive` writes, from the repository's target/staticlib or from the folder that
 //! MARSHDECK_LIB names.
 
 use std::env;
@@ -28,7 +28,7 @@ fn main() {
     }
     if !archive.is_file() {
         eprintln!("{} is missing", archive.display());
-        eprintln!("make it with `rt staticlib capi` at the repository's root, or name its folder in MARSHDECK_LIB");
+        eprintln!("make it with `tools/archive` at the repository's root, or name its folder in MARSHDECK_LIB");
         exit(1);
     }
     println!("cargo:rustc-link-search=native={}", folder.display());

@@ -8,12 +8,12 @@ use Rattle.quality.specs.House.{house}
 use Rattle.state.specs.declared.ResamplerState.{ResamplerState}
 use Rattle.resampler.specs.Answers.{Told, told}
 use Rattle.resampler.specs.Entries.{rate_told, rate_history, rate_coefficients, process_told, process_history, process_output, reset_told, reset_history}
-use Rattle.resampler.specs.Contracts.{SetsRate, Processes, Resets}
+use Rattle.resampler.specs.Promises.{SetsRate, Processes, Resets}
 use Rattle.resampler.specs.declared.Answer.{Answer}
 use Rattle.flat.specs.Flat.{state_of, is_state, flat_told, no_state, flat_call}
 use Rattle.flat.specs.declared.FlatState.{FlatState}
 use Rattle.flat.specs.declared.FlatAnswer.{FlatAnswer}
-use Rattle.capi.specs.Contracts.{FlatSetsRate, FlatProcesses, FlatResets}
+use Rattle.capi.specs.Promises.{FlatSetsRate, FlatProcesses, FlatResets}
 
 -- ---- no state has these numbers
 module _ (f : FlatState) (no : is_state f ≡ false) {answer : FlatAnswer} (a : answer ≡ no_state f) where

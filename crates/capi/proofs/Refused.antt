@@ -17,7 +17,7 @@ use Rattle.flat.specs.Flat.{flat_of, state_of, is_state, by_state, flat_told, no
 use Rattle.flat.specs.declared.FlatState.{FlatState}
 use Rattle.flat.specs.declared.FlatAnswer.{FlatAnswer}
 use Rattle.flat.proofs.Twins.{flat_back}
-use Rattle.capi.specs.Contracts.{FlatSetsRate, FlatProcesses, FlatResets, FlatRefused, FlatUnmoved}
+use Rattle.capi.specs.Promises.{FlatSetsRate, FlatProcesses, FlatResets, FlatRefused, FlatUnmoved}
 
 -- ---- one call, by whether some state has the numbers
 module _ (f : FlatState) (call : ResamplerState → Told) {answer : FlatAnswer} (a : answer ≡ flat_call f call) (no : FlatRefused answer) where

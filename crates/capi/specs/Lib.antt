@@ -1,2 +1,2 @@
 -- What the exported functions say, of the numbers that cross. Assumes nothing.
-pub mod Contracts
+pub mod Promises

@@ -92,7 +92,7 @@ module _ (source target : ℕ) (hs : InLimits source) (ht : InLimits target) whe
   -- they are those of a recording of its samples
   pub outputs_of_a_file : (l : Slices) → Long l → (reads : List (List ℕ)) → AllShort reads
       → (q : Recording) × OfTheFile source target (samples_of (joined reads)) (resampled source target (samples_of (joined reads))) q
-  outputs_of_a_file l long reads short = resampling.recording-of source target hs ht l long (joined reads) reads short refl
+  outputs_of_a_file l long reads short = resampling.recording_of source target hs ht l long (joined reads) reads short refl
 
   -- and `closed_total` tells how many there are
   pub as_many_as_told : (samples : List Float) → length samples ≤ max_samples

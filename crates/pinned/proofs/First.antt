@@ -94,7 +94,7 @@ module _ (row : QualityMapping) (source target : ℕ) where
         let v = first_verdict memLen setting.coefs (omega arith) (omega arith) in
         rated_belongs row (first_state row source target) sane
         (updated_rated row sane (fresh_state target) source memLen setting.coefs
-        (updates.rate-ready row sane (fresh_state target) source memLen setting.coefs v (λ z. omega (arith, hs.low))))
+        (updates.rate_ready row sane (fresh_state target) source memLen setting.coefs v (λ z. omega (arith, hs.low))))
 
     -- slices that are long enough for the rate are long enough for a call
     pub first_fits : Sane row → (memLen coefsLen : ℕ) → history_needed (setting_of row source target).filt_len ≤ memLen

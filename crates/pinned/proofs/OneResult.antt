@@ -9,7 +9,7 @@ use Rattle.judge.specs.declared.Refusal.{Refusal}
 use Rattle.judge.specs.declared.Refusal.TheVariants.{Rate, History, Coefficients, EmptyInput, TooLong, NoRate, State, Mark, Version}
 use Rattle.resampler.specs.Answers.{Told, told}
 use Rattle.resampler.specs.Entries.{new_told, skip_told}
-use Rattle.resampler.specs.Contracts.{SetsRate, Processes, Resets}
+use Rattle.resampler.specs.Promises.{SetsRate, Processes, Resets}
 use Rattle.resampler.specs.declared.Answer.{Answer}
 use Rattle.resampler.specs.declared.Answer.TheVariants.{Refused, Accepted}
 

@@ -113,7 +113,7 @@ module _ (row : QualityMapping) (sane : Sane row) (s : ResamplerState) where
       (rate_accepts row s source (length mem) (length coefs) v).belongs
       (λ other.
       rated_belongs row (updated_state s source (setting_of row source s.target)) sane
-      (updated_rated source (length mem) (length coefs) (updates.rate-ready row sane s source (length mem) (length coefs) v other))))
+      (updated_rated source (length mem) (length coefs) (updates.rate_ready row sane s source (length mem) (length coefs) v other))))
 
   -- ---- process
   started_to : (t : Bool) → s.started ≤ 1 → cond t 1 s.started ≤ 1
@@ -127,8 +127,8 @@ module _ (row : QualityMapping) (sane : Sane row) (s : ResamplerState) where
   called_moves : (inn room : ℕ) → Rated row s → (c : Called) → c ≡ call (rate_in s) s.magic_samples inn room (place_in s)
       → Moves s (started_after s inn room) c.turn.place.position c.turn.place.phase c.magic
   called_moves inn room r c e =
-      let law = processes.call-law row sane s r inn room in
-      let position = processes.call-position row sane s r inn room in
+      let law = processes.call_law row sane s r inn room in
+      let position = processes.call_position row sane s r inn room in
       rw e
       (record {
         started_to = started_to (runs s.magic_samples inn room) r.started;
@@ -144,10 +144,10 @@ module _ (row : QualityMapping) (sane : Sane row) (s : ResamplerState) where
       let c = (played s coefs input (length out) mem).numbers in
       belonging_by row s (process_verdict row s (length mem) (length coefs) (length input) (length out)) _
       (λ v e.
-      let r = (processes.call-ready row sane s (length mem) (length coefs) (length input) (length out) v).rated in
+      let r = (processes.call_ready row sane s (length mem) (length coefs) (length input) (length out) v).rated in
       rated_belongs row (played_state s (length input) (length out) c) sane
       (rated_moved row s r
-      (called_moves (length input) (length out) r c (processes.played-numbers s mem coefs input (length out)))))
+      (called_moves (length input) (length out) r c (processes.played_numbers s mem coefs input (length out)))))
 
   -- ---- reset and skip: a fresh state stays as it is
   fresh_moved : Fresh s → (t : ResamplerState) → t ≡ fresh_state s.target → belongs_together row t ≡ true

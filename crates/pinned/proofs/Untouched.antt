@@ -93,7 +93,7 @@ module _ (row : QualityMapping) (sane : Sane row) (s : ResamplerState) where
     judged_rate = rate_verdict row s source (length mem) (length coefs)
 
     abbrev ready : judged_rate ≡ Accept → (s.source ≡ source → ⊥) → updates.RateReady row s source (length mem) (length coefs)
-    ready = updates.rate-ready row sane s source (length mem) (length coefs)
+    ready = updates.rate_ready row sane s source (length mem) (length coefs)
 
     -- the same rate again leaves a slice as it was
     kept_by_rate : (used : Told → ℕ) (before after : List Float)
@@ -138,7 +138,7 @@ module _ (row : QualityMapping) (sane : Sane row) (s : ResamplerState) (mem coef
 
   played_keeps : judged_call ≡ Accept → KeptFrom (rate_in s).alloc mem done.mem
   played_keeps v =
-      let k = processes.call-ready row sane s (length mem) (length coefs) (length input) (length out) v in
+      let k = processes.call_ready row sane s (length mem) (length coefs) (length input) (length out) v in
       history_of_a_call (weigh_of (setting_in s) coefs) (rate_in s) s.magic_samples input (length out) (place_in s) mem
       (rate_fits s.mem_alloc_size sane k.limits k.rated.alloc_from)
       (process_accepts row s (length mem) (length coefs) (length input) (length out) v).history
@@ -152,12 +152,12 @@ module _ (row : QualityMapping) (sane : Sane row) (s : ResamplerState) (mem coef
 
   played_past : judged_call ≡ Accept → PastWritten (played_told s (length input) (length out) done.numbers) input out (played_output done out)
   played_past v =
-      let r = (processes.call-ready row sane s (length mem) (length coefs) (length input) (length out) v).rated in
-      let law = processes.call-law row sane s r (length input) (length out) in
-      let numbers = processes.played-numbers s mem coefs input (length out) in
+      let r = (processes.call_ready row sane s (length mem) (length coefs) (length input) (length out) v).rated in
+      let law = processes.call_law row sane s r (length input) (length out) in
+      let numbers = processes.played_numbers s mem coefs input (length out) in
       let consumed : done.numbers.turn.consumed ≤ length input = rw numbers law.consumed in
       let written : done.numbers.turn.written ≤ length out = rw numbers law.written in
-      let enough : done.numbers.turn.written ≤ length done.out = omega (arith, processes.played-length s mem coefs input (length out)) in
+      let enough : done.numbers.turn.written ≤ length done.out = omega (arith, processes.played_length s mem coefs input (length out)) in
       record {
         consumed = consumed;
         written = written;

@@ -20,7 +20,7 @@ use Rattle.judge.specs.declared.Verdict.TheVariants.{Refuse, Accept}
 use Rattle.process.specs.Process.{played, played_state}
 use Rattle.resampler.specs.Answers.{told, refused, accepted, by_verdict}
 use Rattle.resampler.specs.Entries.{rate_history, rate_coefficients, process_told, process_history, process_output}
-use Rattle.resampler.specs.Contracts.{Processes}
+use Rattle.resampler.specs.Promises.{Processes}
 use Rattle.resampler.specs.declared.Answer.{Answer}
 use Rattle.resampler.specs.declared.Answer.TheVariants.{Refused, Accepted}
 use Rattle.pinned.specs.Pinned.{first_state}

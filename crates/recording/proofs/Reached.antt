@@ -35,7 +35,7 @@ use Rattle.process.specs.Process.{place_in, played, played_output}
 use Rattle.process.proofs.Processes.{played_length}
 use Rattle.resampler.specs.Answers.{told, refused, accepted, by_verdict}
 use Rattle.resampler.specs.Entries.{played_told, process_told, process_history, process_output}
-use Rattle.resampler.specs.Contracts.{SetsRate}
+use Rattle.resampler.specs.Promises.{SetsRate}
 use Rattle.pinned.specs.Pinned.{first_state}
 use Rattle.pinned.proofs.First.{new_accepted, first_rate, first_history, first_coefficients, first_setting, first_alloc, first_fits}
 use Rattle.pinned.proofs.Verdicts.{cases}

@@ -35,19 +35,19 @@ module _ (row : QualityMapping) (sane : Sane row) (r : Recording) (m : MadeUnder
 
   -- `closed_total` tells it, for as many samples as it takes
   pub closed_total_tells : AllRead row r → M row r ≤ max_samples → closed_total_told r.source r.target (M row r) ≡ counted_total (made row r)
-  closed_total_tells = counts.closed-total-tells row sane r m
+  closed_total_tells = counts.closed_total_tells row sane r m
 
   -- the samples: each output is the stream's, whatever the cutting
   pub outputs_of_a_recording : StreamOutputs row r
-  outputs_of_a_recording = outputs.stream-outputs row sane r m
+  outputs_of_a_recording = outputs.stream_outputs_lem row sane r m
 
   -- a NaN reaches the outputs next to those that the damage rule spares
   pub tight_bound : TightBound row r
-  tight_bound = outputs.tight-bound row sane r m
+  tight_bound = outputs.tight_bound row sane r m
 
   -- each call of it is refused for two reasons only, and then it changes nothing
   pub each_call : (cs : List Call) (c : Call) (ds : List Call) → r.calls ≡ cs ++ (c ∷ ds) → NextCall row (with_calls r cs) c
-  each_call cs c ds e = reading.next-call row sane (with_calls r cs) (fronts.every_front row r m cs (c ∷ ds) e) c (fronts.every_call row r m cs c ds e)
+  each_call cs c ds e = reading.next_call row sane (with_calls r cs) (fronts.every_front row r m cs (c ∷ ds) e) c (fronts.every_call row r m cs c ds e)
 
   -- its first calls, however many, make a recording, so all of this holds after each call
   pub every_front : (cs ds : List Call) → r.calls ≡ cs ++ ds → MadeUnder row (with_calls r cs)
@@ -55,26 +55,26 @@ module _ (row : QualityMapping) (sane : Sane row) (r : Recording) (m : MadeUnder
 
   -- the next call reads everything that is left, if it is offered that and has room enough, both within what one call takes
   pub reads_to_the_end : (c : Call) → Follows row (whole_input row r) (finished r) c → OffersAll row r c → (after (finished r) c).consumed ≡ to_read row r
-  reads_to_the_end = reading.reads-to-the-end row sane r m
+  reads_to_the_end = reading.reads_to_the_end row sane r m
 
   -- and smaller calls get there, once there are as many as there is to read and to make
   pub read_at_last : AllGetOn r.calls → to_read row r + total row r ≤ length r.calls → AllRead row r
-  read_at_last = reading.read-at-last row sane r m
+  read_at_last = reading.read_at_last row sane r m
 
 -- TWO RECORDINGS under the same settings, each cut in its own way
 
 module _ (row : QualityMapping) (sane : Sane row) (q r : Recording) (o : MadeUnder row q) (m : MadeUnder row r) (same : SameSettings q r) where
   -- of the same samples: an output that both have is the same
   pub same_output : q.samples ≡ r.samples → (k : ℕ) → k < made row q → k < made row r → at (finished q).outputs k ≡ at (finished r).outputs k
-  same_output = outputs.same-output row sane q r o m same
+  same_output = outputs.same_output row sane q r o m same
 
   -- and read to the end they have the same outputs
   pub cutting_is_free : q.samples ≡ r.samples → AllRead row q → AllRead row r → (finished q).outputs ≡ (finished r).outputs
-  cutting_is_free = outputs.cutting-is-free row sane q r o m same
+  cutting_is_free = outputs.cutting_is_free row sane q r o m same
 
   -- of samples that differ within a..b-1: what misses them is the same
   pub damage_stays_local : (a b : ℕ) → DifferWithin a b q.samples r.samples → SameOutside row a b q r
-  damage_stays_local = outputs.damage-stays-local row sane q r o m same
+  damage_stays_local = outputs.damage_stays_local row sane q r o m same
 
 -- THERE ARE SUCH RECORDINGS, for all samples, rates in limits and slices that are long enough
 
@@ -82,11 +82,11 @@ module _ (row : QualityMapping) (source target : ℕ) (samples mem coefs : List 
     (m : history_needed (setting_of row source target).filt_len ≤ length mem) (k : (setting_of row source target).coefs ≤ length coefs) where
   -- cut in every way
   pub every_cutting : (cut : List (ℕ × List Float)) → (r : Recording) × CutAs row source target samples mem coefs cut r
-  every_cutting = cuttings.every-cutting row source target samples mem coefs hs ht m k
+  every_cutting = cuttings.every_cutting row source target samples mem coefs hs ht m k
 
   -- and read to the end
   pub can_be_read : Sane row → (cut : List (ℕ × List Float)) × (r : Recording) × CutAs row source target samples mem coefs cut r × AllRead row r
-  can_be_read = cuttings.can-be-read row source target samples mem coefs hs ht m k
+  can_be_read = cuttings.can_be_read row source target samples mem coefs hs ht m k
 
 -- DEMAND 3
 

@@ -13,7 +13,7 @@ use Rattle.rates.specs.declared.Setting.{Setting}
 use Rattle.state.specs.declared.ResamplerState.{ResamplerState}
 use Rattle.resampler.specs.Answers.{Told, told}
 use Rattle.resampler.specs.Entries.{new_told}
-use Rattle.resampler.specs.Contracts.{SetsRate, Processes}
+use Rattle.resampler.specs.Promises.{SetsRate, Processes}
 use Rattle.resampler.specs.declared.Answer.{Answer}
 
 -- one call of `process_float`

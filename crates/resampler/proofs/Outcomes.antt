@@ -21,7 +21,7 @@ use Rattle.process.specs.Process.{Plays}
 use Rattle.process.specs.declared.Processed.{Processed}
 use Rattle.resampler.specs.Answers.{told, accepted}
 use Rattle.resampler.specs.Entries.{rate_told, rate_history, rate_coefficients, process_told, process_history, process_output, reset_told, reset_history}
-use Rattle.resampler.specs.Contracts.{SetsRate, Processes, Resets}
+use Rattle.resampler.specs.Promises.{SetsRate, Processes, Resets}
 use Rattle.resampler.specs.declared.Answer.TheVariants.{Refused, Accepted}
 
 -- what was judged under the row that is the house row, and which case it was

@@ -10,7 +10,7 @@ ghost use Rattle.std.specs.Prelude.{◌≡◌};
 ghost use Rattle.quality.specs.House.{house};
 ghost use Rattle.resampler.specs.Answers.{told};
 ghost use Rattle.resampler.specs.Entries.{new_told, skip_told};
-ghost use Rattle.resampler.specs.Contracts.{SetsRate, Processes, Resets};
+ghost use Rattle.resampler.specs.Promises.{SetsRate, Processes, Resets};
 
 pub use judge::Refusal;
 use judge::Verdict;

@@ -1,4 +1,4 @@
--- Below 1.0, half steps cut to a whole number, one more and to_halves, are the nearest whole steps. From 1.0 on there are 32768. Assumes nothing.
+-- Below 1.0, half steps cut to a whole number, one more and to-halves, are the nearest whole steps. From 1.0 on there are 32768. Assumes nothing.
 use Rattle.std.proofs.Common.{◌≡◌, ℕ, ◌+◌, ◌-◌, ◌*◌, ◌/◌, ◌^◌, ◌<◌, ◌≤◌, min, Bool, true, false, not, ◌&&◌, ◌||◌, T, eqb, ltb, ℤ, pos, sym, refl, ap, ◌∙◌, subst, true≢false, le_trans, le_of_eq, lt_of_lt_of_le, mul-le-mul_right, mul_comm, div-lt_iff_lt-mul, lt_of_mul-lt-mul_right, mul-lt-mul_of_pos_right, le-div_iff_mul-le, mul_right_comm, arith, lit<, lit≤, eqb→eq, ltb→lt, lt→ltb, nltb→le}
 use native.Mathlib.Nat.{mul-add-div, div-div-eq-div-mul, eq_of_mul-eq-mul_right, zero-div}
 use lib.Ieee.{Float, nan, inf, fin, binary32, up, down, fits, lt, le, mul, to_unsigned}

@@ -16,14 +16,14 @@ use Rattle.quality.proofs.House.{house_sane}
 use Rattle.state.specs.declared.ResamplerState.{ResamplerState}
 use Rattle.resampler.specs.Answers.{Told, told}
 use Rattle.resampler.specs.Entries.{new_told, rate_told, rate_history, rate_coefficients}
-use Rattle.resampler.specs.Contracts.{SetsRate, Processes}
+use Rattle.resampler.specs.Promises.{SetsRate, Processes}
 use Rattle.resampler.specs.declared.Answer.{Answer}
 use Rattle.pinned.proofs.Untouched.{process_keeps_rest}
 use Rattle.pcm.specs.Blocks.{samples_of, bytes_of, laid_over, Decodes, Encodes}
 use Rattle.pcm.proofs.Blocks.{length_samples, length_bytes}
 use Rattle.edges.specs.Edges.{odd_of, closing_zeros, closing}
 use Rattle.stages.specs.Stages.{Stage}
-use Rattle.stages.specs.Contracts.{bare_stage, stage_of, Opens, HandedOn, Pulls, Feeds}
+use Rattle.stages.specs.Promises.{bare_stage, stage_of, Opens, HandedOn, Pulls, Feeds}
 use Rattle.stages.specs.declared.Kept.{Kept}
 use Rattle.stages.specs.declared.Pulled.{Pulled}
 

@@ -7,7 +7,7 @@
 ghost use Rattle.std.specs.Prelude.{◌≡◌, ◌*◌, ◌/◌, ◌≤◌, length, take, drop};
 ghost use Rattle.resampler.specs.Answers.{told};
 ghost use Rattle.edges.specs.Edges.{closing};
-ghost use Rattle.stages.specs.Contracts.{bare_stage, stage_of, Opens, Pulls, Feeds};
+ghost use Rattle.stages.specs.Promises.{bare_stage, stage_of, Opens, Pulls, Feeds};
 
 use resampler::{Answer, ResamplerState};
 

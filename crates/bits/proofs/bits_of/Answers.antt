@@ -2,7 +2,6 @@
 use mathlib.Core.Path.{◌≡◌, refl, sym, ap, ◌∙◌, subst}
 use mathlib.Core.Bool.{false, not, true≢false}
 use Prim.Native.Nat.{ℕ}
-use borrow.Author.Rules.{rules}
 use lib.Dec.{T}
 use lib.Ieee.{Float, nan, inf, fin, binary32, is_nan, ne, to_bits}
 use lib.Ieee.Compare.{differs_from_itself, nan_differs}

@@ -1,6 +1,6 @@
 -- `casts::nearest_quotient` meets its contract: its one test goes up exactly where the nearest whole number does (`rounds_up`, `rounds_down` of proofs/Closest.antt).
 -- Assumes nothing.
-use Rattle.std.proofs.Common.{div-le_self, arith, rules}
+use Rattle.std.proofs.Common.{div-le_self, arith}
 use native.Mathlib.Nat.{mod-le}
 use Rattle.math.proofs.Closest.{rounds_up, rounds_down}
 use Rattle.casts.proofs.nearest_quotient.Goals as goal

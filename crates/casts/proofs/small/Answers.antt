@@ -1,5 +1,5 @@
 -- `casts::small` meets its contract: what the cast asks is what `small` requires. Assumes nothing.
-use Rattle.std.proofs.Common.{◌^◌, le→leb, rules}
+use Rattle.std.proofs.Common.{◌^◌, le→leb}
 use lib.Ieee.{in_float}
 use Rattle.casts.proofs.small.Goals as goal
 

@@ -1,5 +1,4 @@
 -- `edges::closing_zeros` meets its contract. Assumes nothing.
-use borrow.Author.Rules.{rules}
 use Rattle.edges.proofs.closing_zeros.Goals as goal
 
 pub returns-then-came : goal.returns-then-came

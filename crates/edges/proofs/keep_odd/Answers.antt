@@ -1,7 +1,6 @@
 -- `edges::keep_odd` meets its contract: nothing is left of an even count, one byte of an odd one (`proofs/Laws.antt`). Assumes nothing.
 use native.Mathlib.Omega.{arith}
 use Rattle.edges.proofs.Laws.{none_odd, one_odd}
-use borrow.Author.Rules.{rules}
 use Rattle.edges.proofs.keep_odd.Goals as goal
 
 pub returns-then-n-eq0 : goal.returns-then-n-eq0

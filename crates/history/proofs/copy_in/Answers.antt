@@ -1,9 +1,8 @@
 -- `history::copy_in` meets its contract. The invariant: i samples are pasted. The measure is how many are left. Assumes nothing.
-use Prim.Native.Nat.{◌-◌}
 use native.Mathlib.Omega.{arith}
 use mathlib.Core.Path.{refl}
 use lib.Ieee.{nan}
-use Rattle.history.proofs.Pasted.{Pasted, starts, goes_on, ends}
+use Rattle.history.proofs.Pasted.{starts, goes_on, ends}
 use Rattle.history.proofs.copy_in.Goals as goal
 
 pub loop-i-init : goal.loop-i-init

@@ -1,9 +1,6 @@
 -- `history::copy_in` meets its contract. The invariant: i samples are pasted. The measure is how many are left. Assumes nothing.
 use Prim.Native.Nat.{◌-◌}
-use native.Mathlib.Omega.{arith}
-use mathlib.Core.Path.{refl}
-use lib.Ieee.{nan}
-use Rattle.history.proofs.Pasted.{Pasted, starts, goes_on, ends}
+use Rattle.history.proofs.Pasted.{Pasted}
 use Rattle.history.proofs.copy_in.Given as goal
 
 abbrev pub invariant-loop-i : goal.invariant-loop-i

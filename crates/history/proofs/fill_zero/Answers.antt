@@ -1,11 +1,10 @@
 -- `history::fill_zero` meets its contract. The invariant: i zeros are pasted. The measure is how many are left. Assumes nothing.
-use Prim.Native.Nat.{◌-◌}
 use native.Mathlib.Omega.{arith}
 use mathlib.Core.Path.{sym}
 use lib.ListN.{replicate, length-replicate, get_or-replicate}
 use lib.Ieee.{nan, of_bits}
 use Rattle.math.specs.Numerals.{nought}
-use Rattle.history.proofs.Pasted.{Pasted, starts, goes_on, ends}
+use Rattle.history.proofs.Pasted.{starts, goes_on, ends}
 use Rattle.history.proofs.fill_zero.Goals as goal
 
 pub loop-i-init : goal.loop-i-init

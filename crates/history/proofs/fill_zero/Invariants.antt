@@ -1,11 +1,8 @@
 -- `history::fill_zero` meets its contract. The invariant: i zeros are pasted. The measure is how many are left. Assumes nothing.
 use Prim.Native.Nat.{◌-◌}
-use native.Mathlib.Omega.{arith}
-use mathlib.Core.Path.{sym}
-use lib.ListN.{replicate, length-replicate, get_or-replicate}
-use lib.Ieee.{nan, of_bits}
+use lib.ListN.{replicate}
 use Rattle.math.specs.Numerals.{nought}
-use Rattle.history.proofs.Pasted.{Pasted, starts, goes_on, ends}
+use Rattle.history.proofs.Pasted.{Pasted}
 use Rattle.history.proofs.fill_zero.Given as goal
 
 abbrev pub invariant-loop-i : goal.invariant-loop-i

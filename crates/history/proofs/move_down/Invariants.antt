@@ -1,12 +1,7 @@
 -- `history::move_down` meets its contract. The invariant: i entries are pasted; the entry that is read next stands above them, so it is as it was. The measure is how many are left. Assumes nothing.
-use Prim.Native.Nat.{◌+◌, ◌-◌}
-use native.Mathlib.Omega.{arith}
-use mathlib.Core.Path.{sym, ap, ◌∙◌}
-use mathlib.Core.List.{List}
-use lib.ListN.{drop, get_or, length-drop}
-use lib.Seq.{get_or-drop}
-use lib.Ieee.{Float, nan}
-use Rattle.history.proofs.Pasted.{Pasted, starts, goes_on, ends, get_or-paste_high}
+use Prim.Native.Nat.{◌-◌}
+use lib.ListN.{drop}
+use Rattle.history.proofs.Pasted.{Pasted}
 use Rattle.history.proofs.move_down.Given as goal
 
 abbrev pub invariant-loop-i : goal.invariant-loop-i

@@ -1,7 +1,5 @@
 -- `history::move_up` meets its contract. The invariant: of count entries those from `left` on are moved; the entry that is read next stands below them, so it is as it was. The measure is `left`. Assumes nothing.
-use native.Mathlib.Omega.{arith}
-use lib.Ieee.{nan}
-use Rattle.history.proofs.Upwards.{Raised, starts, goes_on, ends}
+use Rattle.history.proofs.Upwards.{Raised}
 use Rattle.history.proofs.move_up.Given as goal
 
 abbrev pub invariant-loop-left : goal.invariant-loop-left

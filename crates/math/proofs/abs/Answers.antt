@@ -1,6 +1,5 @@
 -- `math::abs` meets its contract: |a| is a times its own sign. Assumes nothing.
 use mathlib.Core.Path.{◌∙◌}
-use borrow.Author.Rules.{rules}
 use Rattle.math.proofs.Sign.{own_sign}
 use Rattle.math.proofs.abs.Goals as goal
 

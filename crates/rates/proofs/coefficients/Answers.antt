@@ -1,7 +1,6 @@
 -- `rates::coefficients` meets its contract: both products fit, and each kernel has its own line of the definition. Assumes nothing.
 use native.Mathlib.Nat.{mul-le-mul}
 use native.Mathlib.Omega.{arith}
-use borrow.Author.Rules.{rules}
 use Rattle.rates.specs.Setting.{coefficients_of}
 use Rattle.rates.proofs.coefficients.Goals as goal
 

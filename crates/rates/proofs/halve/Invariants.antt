@@ -1,14 +1,8 @@
 -- `rates::halve` meets its contract. The invariant: what is left has been halved for each power before the x-th. The measure is the
 -- number of powers to come. Assumes nothing.
-use mathlib.Core.Path.{◌≡◌, sym, ◌∙◌, ap}
-use mathlib.Core.Logic.{⊎_elim}
-use Prim.Native.Nat.{ℕ, suc, ◌+◌, ◌-◌, ◌*◌, ◌/◌, ◌%◌, ◌^◌, ◌≤◌, ◌<◌}
-use native.Mathlib.Nat.{one-mul, mul-le-mul_right}
-use native.Mathlib.Omega.{arith}
-use lib.Dec.{lit<}
-use lib.Pow.{shl_exact, pow_mono}
+use mathlib.Core.Path.{◌≡◌}
+use Prim.Native.Nat.{◌-◌, ◌≤◌}
 use Rattle.rates.specs.Setting.{halved}
-use Rattle.rates.proofs.Numbers.{halved_none, halved_more, halved_same}
 use Rattle.rates.proofs.halve.Given as goal
 
 abbrev pub invariant-loop-x : goal.invariant-loop-x

@@ -1,5 +1,4 @@
 -- `rates::kernel_for` meets its contract: both products fit, and each way out has the tests that the definition has. Assumes nothing.
-use mathlib.Core.Logic.{⊎_elim}
 use Prim.Native.Nat.{◌+◌, ◌*◌, ◌/◌}
 use native.Mathlib.Nat.{mul-le-mul}
 use native.Mathlib.Omega.{arith}
@@ -29,8 +28,8 @@ returns c =
     let a = c.args in
     elim c.else-n-den.branch [
       | else-n-den-via-then-n-den+else-n-den-2 w ↦ rw (
-          le-leb (a.n * a.den) (a.n * a.oversample + 8) w.if-n-den.true,
-          lt-leb a.n (536870911 / a.den) w.if-n-den-2.false,
-        )
+        le-leb (a.n * a.den) (a.n * a.oversample + 8) w.if-n-den.true,
+        lt-leb a.n (536870911 / a.den) w.if-n-den-2.false,
+      )
       | else-n-den-via-else-n-den w ↦ rw (lt-leb (a.n * a.den) (a.n * a.oversample + 8) w.if-n-den.false)
     ]

@@ -1,6 +1,6 @@
 -- `ratio::gcd` meets its contract: each turn is one of Euclid's steps. The invariant: the two numbers have the greatest common divisor of
 -- those at entry. The measure is a, which becomes a remainder of itself. Assumes nothing.
-use mathlib.Core.Path.{◌≡◌, refl, sym, ap, ◌∙◌}
+use mathlib.Core.Path.{◌≡◌, sym, ap, ◌∙◌}
 use native.Mathlib.Nat.{mod-lt}
 use native.Mathlib.Omega.{arith}
 use Rattle.ratio.specs.Gcd.{gcd_of}

@@ -1,10 +1,7 @@
 -- `ratio::gcd` meets its contract: each turn is one of Euclid's steps. The invariant: the two numbers have the greatest common divisor of
 -- those at entry. The measure is a, which becomes a remainder of itself. Assumes nothing.
-use mathlib.Core.Path.{◌≡◌, refl, sym, ap, ◌∙◌}
-use native.Mathlib.Nat.{mod-lt}
-use native.Mathlib.Omega.{arith}
+use mathlib.Core.Path.{◌≡◌}
 use Rattle.ratio.specs.Gcd.{gcd_of}
-use Rattle.ratio.proofs.Laws.{gcd_step, gcd_zero}
 use Rattle.ratio.proofs.gcd.Given as goal
 
 abbrev pub invariant-loop-a : goal.invariant-loop-a

@@ -2,7 +2,6 @@
 use native.Mathlib.Omega.{arith}
 use Rattle.ratio.specs.Lowest.{lowest}
 use Rattle.ratio.proofs.Laws.{gcd_positive}
-use borrow.Author.Rules.{rules}
 use Rattle.ratio.proofs.simplify.Goals as goal
 
 pub nonzero_div-result : goal.nonzero_div-result

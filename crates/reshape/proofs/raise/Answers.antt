@@ -1,6 +1,5 @@
 -- `reshape::raise` meets its contract: a move up, then zeros. Assumes nothing.
 use Rattle.reshape.specs.Reshaped.{raised}
-use borrow.Author.Rules.{rules}
 use Rattle.reshape.proofs.raise.Goals as goal
 
 pub returns : goal.returns

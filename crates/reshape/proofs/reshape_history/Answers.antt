@@ -4,7 +4,6 @@ use mathlib.Core.Path.{◌≡◌}
 use Prim.Native.Nat.{◌+◌, ◌*◌, ◌≤◌, ◌<◌}
 use native.Mathlib.Omega.{arith}
 use borrow.Author.Tests.{lt-ltb, le-ltb, eq-eqb, ne_eqb}
-use borrow.Author.Rules.{rules}
 use Rattle.reshape.specs.Reshaped.{grown, shorter, shorter_magic, reshaped_history, reshaped_magic}
 use Rattle.reshape.proofs.reshape_history.Goals as goal
 use Rattle.reshape.proofs.reshape_history.Goals.{After-fill_zero}
@@ -21,19 +20,19 @@ used r = r.requires.before
 
 pub returns-then-change-eq0 : goal.returns-then-change-eq0
 unfolding reshaped_history reshaped_magic
-returns-then-change-eq0 c = 
+returns-then-change-eq0 c =
     let a = c.args.change in
     let t = eq-eqb a.started 0 (omega arith) in
     (simp t, simp (t, c.fill_zero-then-change-eq0.ensures, is-grown (goal.at-returns-then-change-eq0 c).After-fill_zero))
 
 pub lengthen-requires : goal.lengthen-requires
-lengthen-requires c = 
+lengthen-requires c =
     let p = used (goal.at-lengthen-requires c).After-fill_zero c.if-change-eq0.false in
     omega arith
 
 pub returns-then-old-n : goal.returns-then-old-n
 unfolding reshaped_history reshaped_magic
-returns-then-old-n c = 
+returns-then-old-n c =
     let a = c.args.change in
     let t = ne_eqb a.started 0 (λ q. omega arith) in
     let u = lt-ltb a.old_length a.filt_len (omega arith) in
@@ -41,23 +40,23 @@ returns-then-old-n c =
     (simp (t, u, after.0), simp (t, u, after.1, is-grown (goal.at-returns-then-old-n c).After-fill_zero))
 
 pub overflow_add-n-then-n-old : goal.overflow_add-n-then-n-old
-overflow_add-n-then-n-old c = 
+overflow_add-n-then-n-old c =
     let p = used (goal.at-overflow_add-n-then-n-old c).After-fill_zero c.if-change-eq0.false in
     omega arith
 
 pub move_down-requires : goal.move_down-requires
-move_down-requires c = 
+move_down-requires c =
     let p = used (goal.at-move_down-requires c).After-fill_zero c.if-change-eq0.false in
     omega arith
 
 pub overflow_add-result : goal.overflow_add-result
-overflow_add-result c = 
+overflow_add-result c =
     let p = used (goal.at-overflow_add-result c).After-fill_zero c.if-change-eq0.false in
     omega arith
 
 pub returns-then-n-old : goal.returns-then-n-old
 unfolding reshaped_history reshaped_magic shorter shorter_magic
-returns-then-n-old c = 
+returns-then-n-old c =
     let a = c.args.change in
     let t = ne_eqb a.started 0 (λ q. omega arith) in
     let u = le-ltb a.old_length a.filt_len (omega arith) in
@@ -67,7 +66,7 @@ returns-then-n-old c =
 
 pub returns : goal.returns
 unfolding reshaped_history reshaped_magic
-returns c = 
+returns c =
     let a = c.args.change in
     let t = ne_eqb a.started 0 (λ q. omega arith) in
     let u = le-ltb a.old_length a.filt_len (omega arith) in

@@ -1,6 +1,5 @@
 -- `sinc::place_at` meets its contract: its steps are the definition's, and widening an f32 keeps the number. Assumes nothing.
 use lib.Ieee.{of_bits, of_int}
-use Rattle.std.proofs.Common.{rules}
 use Rattle.sinc.specs.Sinc.{place_at}
 use Rattle.sinc.proofs.place_at.Goals as goal
 

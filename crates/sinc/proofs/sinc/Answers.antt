@@ -1,6 +1,6 @@
 -- `sinc::sinc` meets its contract. What `windowed_sinc` requires follows from the test |x| > n/2 that failed (`proofs/Place.antt`).
 -- Assumes nothing.
-use Rattle.std.proofs.Common.{◌≡◌, ◌∙◌, rules}
+use Rattle.std.proofs.Common.{◌≡◌, ◌∙◌}
 use lib.Ieee.{of_bits}
 use Rattle.math.specs.Numerals.{decimal64}
 use Rattle.math.specs.Sign.{magnitude}

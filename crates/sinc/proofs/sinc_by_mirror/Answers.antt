@@ -1,5 +1,5 @@
 -- `sinc::sinc_by_mirror` meets its contract: the sinc is even (`proofs/Mirrored.antt`), and values of f32 that have the same bits are the same. Assumes nothing.
-use Rattle.std.proofs.Common.{◌≡◌, Bool, true, T, sym, subst, rules}
+use Rattle.std.proofs.Common.{◌≡◌, Bool, true, T, sym, subst}
 use Rattle.math.proofs.Negated.{real_neg}
 use Rattle.sinc.proofs.Mirrored.{by_bits}
 use Rattle.sinc.proofs.sinc_by_mirror.Goals as goal

@@ -1,5 +1,5 @@
 -- `sinc::windowed_sinc` meets its contract: its steps are the definition's, and widening an f32 keeps the number. Assumes nothing.
-use Rattle.std.proofs.Common.{sym, subst, rules}
+use Rattle.std.proofs.Common.{sym, subst}
 use lib.Ieee.{of_bits}
 use Rattle.math.specs.Numerals.{decimal64}
 use Rattle.sine.specs.Sine.{C}

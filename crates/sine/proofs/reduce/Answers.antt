@@ -1,9 +1,7 @@
 -- `sine::reduce` meets its contract: each `if` picks as the definition's `cond` does. Assumes nothing.
 use mathlib.Core.Path.{◌≡◌, ◌∙◌}
 use mathlib.Core.Bool.{cond}
-use mathlib.Core.Logic.{⊎_elim}
 use lib.Ieee.{Float, binary64, rem, lt, le, of_bits, of_int}
-use borrow.Author.Rules.{rules}
 use Rattle.math.specs.Numerals.{decimal64, as_f64}
 use Rattle.math.specs.Operators.{◌-ᵈ◌, ◌*ᵈ◌, ◌/ᵈ◌}
 use Rattle.math.specs.Sign.{magnitude}

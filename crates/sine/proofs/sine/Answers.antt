@@ -1,9 +1,7 @@
 -- `sine::sine` meets its contract: the three calls are the definition's three steps, and the `if` its flip. Assumes nothing.
 use mathlib.Core.Path.{◌≡◌, ◌∙◌}
 use mathlib.Core.Bool.{cond}
-use mathlib.Core.Logic.{⊎_elim}
 use lib.Ieee.{Float, neg}
-use borrow.Author.Rules.{rules}
 use Rattle.math.specs.Sign.{times_sign}
 use Rattle.sine.specs.Sine.{reduced, series, sine_at}
 use Rattle.sine.specs.declared.Reduced.{Reduced}

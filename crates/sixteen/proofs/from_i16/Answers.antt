@@ -1,5 +1,5 @@
 -- `sixteen::from_i16` meets its contract (`proofs/From.antt`). The machine reads the sample back from its bits, which is the sample. Assumes nothing.
-use Rattle.std.proofs.Common.{false, ℤ, pos, ap, ◌∙◌, w16, rules}
+use Rattle.std.proofs.Common.{false, ℤ, pos, ap, ◌∙◌, w16}
 use lib.Ieee.{binary32, fin, div, of_int, of_bits}
 use mir.ValLaws.{to_z-of_z}
 use Rattle.sixteen.proofs.From.{div_is}

@@ -1,5 +1,5 @@
 -- `sixteen::negated` meets its contract. What the machine subtracts and casts is -n all along, since n and -n fit (`proofs/Signed.antt`). Assumes nothing.
-use Rattle.std.proofs.Common.{◌≡◌, ℤ, pos, ◌-ℤ◌, neg_ℤ, sym, ap, ◌∙◌, subst, arith, w16, w32, SFits, to_z, of_z, rules}
+use Rattle.std.proofs.Common.{◌≡◌, ℤ, pos, ◌-ℤ◌, neg_ℤ, sym, ap, ◌∙◌, subst, arith, w16, w32, SFits, to_z, of_z}
 use mir.ValLaws.{to_z-of_z, to_z_pos}
 use Rattle.sixteen.proofs.Signed.{zero_minus, negated_fits}
 use Rattle.sixteen.proofs.negated.Goals as goal

@@ -1,5 +1,5 @@
 -- `sixteen::sample_of` meets its contract: the machine's word, less 65536 in the upper half, is the sample (`proofs/Signed.antt`). Assumes nothing.
-use Rattle.std.proofs.Common.{◌≡◌, ℤ, pos, ◌-ℤ◌, sym, ap, ◌∙◌, subst, arith, w16, w32, SFits, to_z, of_z, rules}
+use Rattle.std.proofs.Common.{◌≡◌, ℤ, pos, ◌-ℤ◌, sym, ap, ◌∙◌, subst, arith, w16, w32, SFits, to_z, of_z}
 use mir.ValLaws.{to_z-of_z, to_z_pos}
 use Rattle.sixteen.specs.Sixteen.{sample_of}
 use Rattle.sixteen.proofs.Signed.{high_half, low_half, sample_fits, sample_is, wider}

@@ -1,6 +1,6 @@
 -- `sixteen::step_count` meets its contract: by x's sign, which changes no magnitude, from what `nearest_steps` ensures (`proofs/Signs.antt`).
 -- Assumes nothing.
-use Rattle.std.proofs.Common.{◌∙◌, rules}
+use Rattle.std.proofs.Common.{◌∙◌}
 use lib.Ieee.{of_bits}
 use Rattle.math.proofs.Pick.{passed, failed}
 use Rattle.sixteen.proofs.Signs.{steps_neg, neg_above, neither}

@@ -1,5 +1,5 @@
 -- `sixteen::to_i16` meets its contract: by x's sign, from what `step_count` and `negated` ensure (`proofs/Signs.antt`). Assumes nothing.
-use Rattle.std.proofs.Common.{◌≡◌, ℕ, ◌<◌, ◌≤◌, min, pos, neg_ℤ, sym, ap, ◌∙◌, arith, w16, rules}
+use Rattle.std.proofs.Common.{◌≡◌, ℕ, ◌<◌, ◌≤◌, min, pos, neg_ℤ, sym, ap, ◌∙◌, arith, w16}
 use lib.Ieee.{of_bits}
 use mir.ValLaws.{to_z-of_z, to_z_pos}
 use Rattle.math.proofs.Pick.{passed, failed}

@@ -1,5 +1,5 @@
 -- `sixteen::word_of` meets its contract: the sample + 65536, cut to sixteen bits (`proofs/Signed.antt`). Assumes nothing.
-use Rattle.std.proofs.Common.{◌%◌, T, ℤ, nat_abs, sym, ap, ◌∙◌, subst, arith, w32, Fits, SFits, rules}
+use Rattle.std.proofs.Common.{◌%◌, T, ℤ, nat_abs, sym, ap, ◌∙◌, subst, arith, w32, Fits, SFits}
 use lib.Signed.{non_neg}
 use Rattle.sixteen.proofs.Signed.{shifted_lt, shifted_word, wider, read16, sum, read_sum}
 use Rattle.sixteen.proofs.word_of.Goals as goal

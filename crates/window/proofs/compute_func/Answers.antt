@@ -1,6 +1,6 @@
 -- `window::compute_func` meets its contract: the floor is at most 32 (`proofs/Bounds.antt`), so 35 is the last entry read; each literal of the table is the f64 nearest to its decimal in `kaiser_digits`, which antt computes.
 -- Assumes nothing.
-use Rattle.std.proofs.Common.{ℕ, ◌^◌, ◌≤◌, sym, refl, subst, le_trans, lit≤, le→leb, rules}
+use Rattle.std.proofs.Common.{ℕ, ◌^◌, ◌≤◌, sym, refl, subst, le_trans, lit≤, le→leb}
 use lib.Ieee.{of_bits, of_int, in_float}
 use Rattle.math.specs.Numerals.{decimal64}
 use Rattle.window.specs.Window.{kaiser, window_at}

@@ -1,7 +1,6 @@
 -- `window::weights_at` meets its contract: the steps are the definition's, and each constant is the decimal that it names, which antt computes.
 -- Assumes nothing.
 use lib.Ieee.{of_bits, of_int}
-use Rattle.std.proofs.Common.{rules}
 use Rattle.math.specs.Numerals.{decimal64}
 use Rattle.window.specs.Window.{weights_at}
 use Rattle.window.proofs.weights_at.Goals as goal

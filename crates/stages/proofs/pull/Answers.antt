@@ -1,0 +1,23 @@
+-- `stages::pull` meets its contract: the outputs lie within the output, and all their bytes fit (`proofs/Laws.antt`). Assumes nothing.
+use mathlib.Core.Path.{sym}
+use lib.Seq.{length-take-le}
+use Rattle.stages.proofs.Laws.{written_within, pulls}
+use Rattle.stages.proofs.pull.Goals as goal
+
+pub slice_bounds-encode-end : goal.slice_bounds-encode-end
+slice_bounds-encode-end c = written_within c.process_float-answer.ensures c.written_of-written.ensures
+
+pub slice_bounds-encode-end-2 : goal.slice_bounds-encode-end-2
+slice_bounds-encode-end-2 c = sym (length-take-le _ _ (written_within c.process_float-answer.ensures c.written_of-written.ensures))
+
+pub shape_of-mem : goal.shape_of-mem
+shape_of-mem c = c.process_float-answer.auto.mem
+
+pub shape_of-out : goal.shape_of-out
+shape_of-out c = c.process_float-answer.auto.out
+
+pub shape_of-text : goal.shape_of-text
+shape_of-text c = c.encode-size.auto.out
+
+pub returns : goal.returns
+returns c = pulls c.process_float-answer.ensures c.requires c.written_of-written.ensures c.encode-size.ensures c.state_of.ensures
