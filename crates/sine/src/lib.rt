@@ -3,13 +3,26 @@
 // pi, so far from 0 it drifts away from the sine of mathematics: nothing is promised of that.
 #![tactic(auto)]
 
-ghost use Rattle.std.specs.Prelude.{◌≡◌};
-ghost use Rattle.sine.specs.Sine.{reduced, series, sine_at};
+ghost use Rattle.std.specs.Prelude.{◌≡◌, ◌*◌, ◌%◌, ◌^◌, false};
+ghost use Rattle.std.specs.Float.{binary64};
+ghost use Rattle.std.specs.Float.Ieee.{rem, round};
+ghost use Rattle.math.specs.Numerals.{as_f64};
+ghost use Rattle.math.specs.Operators.{◌*ᵈ◌};
+ghost use Rattle.math.specs.Sign.{magnitude};
+ghost use Rattle.sine.specs.Sine.{C, reduced, series, sine_at};
 
 use math::{abs, times_sign};
 
 // The f64 nearest pi.
 const PI: f64 = 3.141592653589793;
+
+// A whole turn, 2 * PI, in units of 2^-50.
+const TURN: u64 = 7074237752028440;
+
+// The weight of a pattern's sign, and of the lowest bit of its exponent.
+const SIGN: u64 = 0x8000_0000_0000_0000;
+
+const EXPONENT: u64 = 0x10_0000_0000_0000;
 
 // What the reduction leaves of an angle: r, from 0 to a quarter turn, and whether the sign of its
 // sine is flipped.
@@ -19,11 +32,43 @@ struct Reduced {
     flip: bool,
 }
 
+// What is left of digits * 2^places / 2^50 after whole turns. One place after another is doubled.
+fn left_of_digits(digits: u64, places: u64) -> f64
+    ensures { result ≡ round binary64 false (digits * 2 ^ places % 7074237752028440) (2 ^ 50) }
+{
+    let mut left = digits % TURN;
+    let mut ahead = places;
+    while ahead > 0 {
+        left = left * 2 % TURN;
+        ahead -= 1;
+    }
+    std::num::nearest_u64_to_f64(left) / 1125899906842624.0
+}
+
+// What is left of |a| after whole turns, exactly: what Rust's `%` gives, worked out from the pattern,
+// since `%` calls the C library. Below 4 all of it is left. At an infinity or a NaN it is a NaN.
+fn left_of_turns(a: f64) -> f64
+    ensures { result ≡ rem binary64 (magnitude a) (as_f64 2 *ᵈ C) }
+{
+    if a != a {
+        return a;
+    }
+    let bits = f64::to_bits(a) % SIGN;
+    let exponent = bits / EXPONENT;
+    if exponent > 2046 {
+        return 0.0 / 0.0;
+    }
+    if exponent < 1025 {
+        return abs(a);
+    }
+    left_of_digits(bits % EXPONENT + EXPONENT, exponent - 1025)
+}
+
 // At an infinity or a NaN r is a NaN, and nothing is flipped.
 fn reduce(a: f64) -> Reduced
     ensures { result ≡ reduced a }
 {
-    let turn = abs(a) % (2.0 * PI);
+    let turn = left_of_turns(a);
     let flip = turn >= PI;
     let half = if flip { turn - PI } else { turn };
     let r = if half > PI / 2.0 { PI - half } else { half };
