@@ -1,8 +1,6 @@
 // The small program, from standard input to standard output.
 #![tactic(auto)]
 
-use libc::{STDIN_FILENO, STDOUT_FILENO};
-
-fn main() {
-    conforming::run(STDIN_FILENO, STDOUT_FILENO);
+fn main(rt: HostRuntime) {
+    conforming::run(&rt, &mut rt.stdin(), &mut rt.stdout());
 }

@@ -4,6 +4,7 @@ ghost use Rattle.conforming.specs.Endings.{Ends};
 
 use crate::files::Next;
 use crate::{Ending, files};
+use std::io::{Read, Write};
 
 // What a turn leaves: how many bytes are held at the front, the first of a sample or none, and what
 // comes next.
@@ -14,24 +15,30 @@ pub struct Copied {
 }
 
 // Reads once behind the byte held, and writes the bytes of the whole samples.
-fn copy_some(input: i32, output: i32, bytes: &mut [u8; 2048], held: usize) -> Copied
+fn copy_some<R: Read, W: Write>(
+    rt: &impl Eprint,
+    input: &mut R,
+    output: &mut W,
+    bytes: &mut [u8; 2048],
+    held: usize,
+) -> Copied
     requires { held ≤ 1 }
     ensures { result.held ≤ 1 }
 {
-    let got = files::read_behind(input, bytes, held);
+    let got = files::read_behind(rt, input, bytes, held);
     if got.count == 0 {
         let next = files::after_nothing(got.failed);
         return Copied { held: 0, next };
     }
     let n = held + got.count;
-    let next = files::after_write(files::write_first(output, bytes, n - n % 2));
+    let next = files::after_write(files::write_first(rt, output, bytes, n - n % 2));
     let odd = edges::keep_odd(bytes, n);
     Copied { held: odd, next }
 }
 
 // A proved loop has to end, and nothing says that the input does: the turns count down, from a number
 // that no run uses up.
-pub fn copy(input: i32, output: i32) -> Ending
+pub fn copy<R: Read, W: Write>(rt: &impl Eprint, input: &mut R, output: &mut W) -> Ending
     ensures { Ends result }
 {
     let mut bytes = [0u8; 2048];
@@ -39,10 +46,9 @@ pub fn copy(input: i32, output: i32) -> Ending
     let mut next = Next::More;
     let mut turns = u64::MAX;
     while turns > 0 && files::goes_on(next) {
-        let turn = copy_some(input, output, &mut bytes, held);
+        let turn = copy_some(rt, input, output, &mut bytes, held);
         held = turn.held;
-        let then = turn.next;
-        next = then;
+        next = turn.next;
         turns -= 1;
     }
     files::ending_of(next)

@@ -1,10 +1,10 @@
 // Reading and writing, with a line on standard error where the system refuses. No contract can say which
-// bytes were read or written; these say how many there can be.
-ghost use Rattle.std.specs.Prelude.{◌+◌, ◌≤◌, length};
-ghost use Rattle.io.specs.Counts.{IsPrefixLen};
+// bytes a file gives or takes; these say how many there can be.
+ghost use Rattle.std.specs.Prelude.{◌≡◌, ◌+◌, ◌≤◌, length, take};
 ghost use Rattle.conforming.specs.Endings.{Ends};
 
 use crate::Ending;
+use std::io::{Read, Write};
 
 // What comes after a turn of a loop: another turn, the end of the input, or an end before it.
 #[derive(Clone, Copy)]
@@ -62,25 +62,32 @@ pub struct Got {
 }
 
 // One read, which may bring fewer bytes than there is room for.
-pub fn read_some(fd: i32, part: &mut [u8]) -> Got
+pub fn read_some<R: Read>(rt: &impl Eprint, input: &mut R, part: &mut [u8]) -> Got
     ensures { result.count ≤ length part.old }
 {
-    let got = libc::read(fd, part);
-    let failed = got < 0;
-    if failed {
-        os::fail(b"conform: cannot read");
+    match input.read(part) {
+        Ok(count) => Got {
+            count,
+            failed: false,
+        },
+        Err(e) => {
+            let _ = eprintln!(rt; "conform: cannot read: {e}");
+            Got {
+                count: 0,
+                failed: true,
+            }
+        }
     }
-    let count = io::count(got, part);
-    Got { count, failed }
 }
 
 // Reads until the bytes are full, the input ends or the system refuses.
-pub fn read_full(fd: i32, bytes: &mut [u8]) -> Got
-    ensures { IsPrefixLen result.count bytes.new }
+pub fn read_full<R: Read>(rt: &impl Eprint, input: &mut R, bytes: &mut [u8]) -> Got
+    ensures bound { result.count ≤ length bytes.new }
+    ensures prefix { result.count ≡ length (take result.count bytes.new) }
 {
     let mut done = 0;
     while done < bytes.len() {
-        let got = read_some(fd, &mut bytes[done..]);
+        let got = read_some(rt, input, &mut bytes[done..]);
         if got.count == 0 {
             return Got {
                 count: done,
@@ -96,20 +103,22 @@ pub fn read_full(fd: i32, bytes: &mut [u8]) -> Got
 }
 
 // One read behind the bytes that are held at the front.
-pub fn read_behind(fd: i32, bytes: &mut [u8], held: usize) -> Got
+pub fn read_behind<R: Read>(rt: &impl Eprint, input: &mut R, bytes: &mut [u8], held: usize) -> Got
     requires { held ≤ length bytes.old }
     ensures { held + result.count ≤ length bytes.old }
 {
-    read_some(fd, &mut bytes[held..])
+    read_some(rt, input, &mut bytes[held..])
 }
 
 // Writes the first bytes, so many, and answers whether the system took them.
-pub fn write_first(fd: i32, bytes: &[u8], size: usize) -> bool
+pub fn write_first<W: Write>(rt: &impl Eprint, output: &mut W, bytes: &[u8], size: usize) -> bool
     requires { size ≤ length bytes.now }
 {
-    let all = io::write_all(fd, &bytes[..size]);
-    if !all {
-        os::fail(b"conform: cannot write");
+    match output.write_all(&bytes[..size]) {
+        Ok(()) => true,
+        Err(e) => {
+            let _ = eprintln!(rt; "conform: cannot write: {e}");
+            false
+        }
     }
-    all
 }

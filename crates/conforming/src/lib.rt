@@ -14,6 +14,7 @@ ghost use Rattle.conforming.specs.Endings.{Ends};
 
 use judge::Refusal;
 use pcm::Header;
+use std::io::{Read, Write};
 
 mod copying;
 mod files;
@@ -29,35 +30,35 @@ pub enum Ending {
     WriteFailed,
 }
 
-// Conforms the file that `input` reads, onto `output`.
-pub fn run(input: i32, output: i32) -> Ending
+// Conforms the file that `input` reads, onto `output`. Standard error is the runtime's.
+pub fn run<R: Read, W: Write>(rt: &impl Eprint, input: &mut R, output: &mut W) -> Ending
     ensures { Ends result }
 {
     let mut head = [0u8; 13];
-    let got = files::read_full(input, &mut head);
+    let got = files::read_full(rt, input, &mut head);
     if got.failed {
         return Ending::ReadFailed;
     }
     let count = got.count;
     let header = pcm::read_header(&head[..count]);
     match header {
-        Header::Refused(refusal) => refuse(output, refusal),
+        Header::Refused(refusal) => refuse(rt, output, refusal),
         Header::Rates(source, target) => {
             if source == target {
-                return copying::copy(input, output);
+                return copying::copy(rt, input, output);
             }
-            resampling::resample(input, output, source, target)
+            resampling::resample(rt, input, output, source, target)
         }
     }
 }
 
 // Writes the line of a refusal, and nothing else.
-fn refuse(output: i32, refusal: Refusal) -> Ending
+fn refuse<W: Write>(rt: &impl Eprint, output: &mut W, refusal: Refusal) -> Ending
     requires { OfAHeader refusal }
     ensures { Ends result }
 {
     let line = refusal_line(refusal);
-    if files::write_first(output, &line, 10) {
+    if files::write_first(rt, output, &line, 10) {
         return Ending::Refused(refusal);
     }
     Ending::WriteFailed

@@ -8,6 +8,7 @@ use crate::files::Next;
 use crate::{Ending, files};
 use resampler::ResamplerState;
 use stages::Kept;
+use std::io::{Read, Write};
 
 // Enough history and coefficients for any two rates in limits.
 const HISTORY: usize = 7839;
@@ -34,9 +35,10 @@ pub struct Turned {
 }
 
 // Reads once behind the byte held, and writes what the whole samples lead to.
-fn resample_some(
-    input: i32,
-    output: i32,
+fn resample_some<R: Read, W: Write>(
+    rt: &impl Eprint,
+    input: &mut R,
+    output: &mut W,
     kept: Kept,
     mem: &mut [f32; HISTORY],
     coefs: &[f32; COEFFICIENTS],
@@ -49,7 +51,7 @@ fn resample_some(
     ensures { result.kept.held ≤ 1 }
 {
     let held = kept.held;
-    let got = files::read_behind(input, bytes, held);
+    let got = files::read_behind(rt, input, bytes, held);
     if got.count == 0 {
         return nothing_read(kept, got.failed);
     }
@@ -64,7 +66,7 @@ fn resample_some(
         text,
     );
     let size = fed.size;
-    let next = files::after_write(files::write_first(output, text, size));
+    let next = files::after_write(files::write_first(rt, output, text, size));
     Turned { kept: fed, next }
 }
 
@@ -97,8 +99,9 @@ fn resample_open(
 }
 
 // Where all was read, the zeros that close a recording go through, if any sample came.
-fn resample_close(
-    output: i32,
+fn resample_close<W: Write>(
+    rt: &impl Eprint,
+    output: &mut W,
     kept: Kept,
     filt_len: u32,
     mem: &mut [f32; HISTORY],
@@ -112,16 +115,17 @@ fn resample_close(
 {
     let closed = stages::close(kept, filt_len, mem, coefs, samples, out, text);
     let size = closed.size;
-    if files::write_first(output, text, size) {
+    if files::write_first(rt, output, text, size) {
         return Ending::Conformed;
     }
     Ending::WriteFailed
 }
 
 // Reads to the end, or to what the system refuses. The turns count down, as where bytes are copied.
-fn resample_all(
-    input: i32,
-    output: i32,
+fn resample_all<R: Read, W: Write>(
+    rt: &impl Eprint,
+    input: &mut R,
+    output: &mut W,
     state: ResamplerState,
     mem: &mut [f32; HISTORY],
     coefs: &[f32; COEFFICIENTS],
@@ -140,19 +144,23 @@ fn resample_all(
     let mut turns = u64::MAX;
     while turns > 0 && files::goes_on(next) {
         let turn = resample_some(
-            input, output, kept, mem, coefs, &mut bytes, samples, out, text,
+            rt, input, output, kept, mem, coefs, &mut bytes, samples, out, text,
         );
-        let after = turn.kept;
-        kept = after;
-        let then = turn.next;
-        next = then;
+        kept = turn.kept;
+        next = turn.next;
         turns -= 1;
     }
     Turned { kept, next }
 }
 
 // The arrays, the first rate, the reads, and then the zeros.
-pub fn resample(input: i32, output: i32, source: u32, target: u32) -> Ending
+pub fn resample<R: Read, W: Write>(
+    rt: &impl Eprint,
+    input: &mut R,
+    output: &mut W,
+    source: u32,
+    target: u32,
+) -> Ending
     requires { InLimits source × InLimits target }
     ensures { Ends result }
 {
@@ -164,6 +172,7 @@ pub fn resample(input: i32, output: i32, source: u32, target: u32) -> Ending
     let state = resample_open(source, target, &mut mem, &mut coefs);
     let filt_len = state.filt_len;
     let all = resample_all(
+        rt,
         input,
         output,
         state,
@@ -179,6 +188,7 @@ pub fn resample(input: i32, output: i32, source: u32, target: u32) -> Ending
     };
     let kept = all.kept;
     resample_close(
+        rt,
         output,
         kept,
         filt_len,

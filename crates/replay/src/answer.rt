@@ -6,7 +6,6 @@ use crate::places::{
     is_operation,
 };
 use crate::segments::least;
-use libc::{STDERR_FILENO, STDOUT_FILENO};
 
 // The modulus of the sums, the largest prime below 2^32.
 const PRIME: u64 = 4294967291;
@@ -15,10 +14,8 @@ const PRIME: u64 = 4294967291;
 fn sum(samples: &[f32], count: u32) -> u32 {
     let end = least(count as usize, samples.len());
     let mut sum: u32 = 0;
-    let mut i = 0;
-    while i < end {
+    for i in 0..end {
         sum = summed(sum, samples[i]);
-        i += 1;
     }
     sum
 }
@@ -30,6 +27,7 @@ fn summed(sum: u32, x: f32) -> u32 {
 
 // Answers a line, and whether the script goes on.
 pub fn tell(
+    rt: &(impl Print + Eprint),
     name: usize,
     line: u64,
     kept: [u32; 25],
@@ -42,95 +40,87 @@ pub fn tell(
     numbers[20] = sum(coefs, kept[COEFFICIENTS]);
     numbers[21] = sum(output, kept[ROOM]);
     if is_operation(name) {
-        return judged(answer(numbers, output));
+        return judged(rt, answer(rt, numbers, output));
     }
-    goes_on(name, line)
+    goes_on(rt, name, line)
 }
 
 // Where there is no answer.
-fn goes_on(name: usize, line: u64) -> bool {
+fn goes_on(rt: &(impl Print + Eprint), name: usize, line: u64) -> bool {
     if name == BAD {
-        io::write_all(STDOUT_FILENO, b"bad line ");
-        io::print_decimal(STDOUT_FILENO, line);
-        io::write_all(STDOUT_FILENO, b"\n");
+        let _ = println!(rt; "bad line {line}");
     }
     if name == UNREADABLE {
-        io::write_all(STDERR_FILENO, b"replay: cannot read the script\n");
+        let _ = eprintln!(rt; "replay: cannot read the script");
     }
     name == PASS_OVER
 }
 
-fn judged(written: bool) -> bool {
+fn judged(rt: &impl Eprint, written: bool) -> bool {
     if !written {
-        io::write_all(STDERR_FILENO, b"replay: cannot write the answer\n");
+        let _ = eprintln!(rt; "replay: cannot write the answer");
     }
     written
 }
 
-fn answer(kept: [u32; 25], output: &[f32]) -> bool {
-    let head = io::write_all(STDOUT_FILENO, b"=");
-    let numbers = put_numbers(kept);
-    let bar = io::write_all(STDOUT_FILENO, b" |");
-    let outputs = put_outputs(output, kept[WRITTEN]);
-    let end = io::write_all(STDOUT_FILENO, b"\n");
+fn answer(rt: &impl Print, kept: [u32; 25], output: &[f32]) -> bool {
+    let head = print!(rt; "=").is_ok();
+    let numbers = put_numbers(rt, kept);
+    let bar = print!(rt; " |").is_ok();
+    let outputs = put_outputs(rt, output, kept[WRITTEN]);
+    let end = println!(rt).is_ok();
     head & numbers & bar & outputs & end
 }
 
-fn put_numbers(kept: [u32; 25]) -> bool {
+fn put_numbers(rt: &impl Print, kept: [u32; 25]) -> bool {
     let mut fine = true;
-    let mut i = 0;
-    while i < 22 {
-        fine = put_number(i, kept[i]) & fine;
-        i += 1;
+    for i in 0..22 {
+        fine = put_number(rt, i, kept[i]) & fine;
     }
     fine
 }
 
 // A bar stands before the state's numbers and before the sums. A NaN cutoff, whatever its bits, is
 // 7fc00000.
-fn put_number(i: usize, number: u32) -> bool {
+fn put_number(rt: &impl Print, i: usize, number: u32) -> bool {
     let mut fine = true;
     if (i == STATE) | (i == SUMS) {
-        fine = io::write_all(STDOUT_FILENO, b" |");
+        fine = print!(rt; " |").is_ok();
     }
     if i == CUTOFF {
-        return put_pattern(bits::bits_of(bits::float_of(number)));
+        return put_pattern(rt, bits::bits_of(bits::float_of(number)));
     }
-    let space = io::write_all(STDOUT_FILENO, b" ");
-    io::print_decimal(STDOUT_FILENO, number as u64) & space & fine
+    print!(rt; " {number}").is_ok() & fine
 }
 
-fn put_pattern(pattern: u32) -> bool {
-    let space = io::write_all(STDOUT_FILENO, b" ");
-    io::print_hex(STDOUT_FILENO, pattern as u64, 8) & space
+fn put_pattern(rt: &impl Print, pattern: u32) -> bool {
+    print!(rt; " {pattern:08x}").is_ok()
 }
 
 // All that was written if that is at most eight, else the first four and the last four.
-fn put_outputs(output: &[f32], written: u32) -> bool {
+fn put_outputs(rt: &impl Print, output: &[f32], written: u32) -> bool {
     let count = least(written as usize, output.len());
     let mut fine = true;
-    let mut i = 0;
-    while i < count {
-        fine = put_output(i, count - i, count, output[i]) & fine;
-        i += 1;
+    for i in 0..count {
+        fine = put_output(rt, i, count - i, count, output[i]) & fine;
     }
     fine
 }
 
 // Output i, with which `left` are left. Two dots stand for all that are left out.
-fn put_output(i: usize, left: usize, count: usize, x: f32) -> bool {
+fn put_output(rt: &impl Print, i: usize, left: usize, count: usize, x: f32) -> bool {
     if (count > 8) & (i == 4) {
-        return io::write_all(STDOUT_FILENO, b" ..");
+        return print!(rt; " ..").is_ok();
     }
     if (count > 8) & (i > 4) & (left > 4) {
         return true;
     }
-    put_sample(x)
+    put_sample(rt, x)
 }
 
-fn put_sample(x: f32) -> bool {
+fn put_sample(rt: &impl Print, x: f32) -> bool {
     if x != x {
-        return io::write_all(STDOUT_FILENO, b" nan");
+        return print!(rt; " nan").is_ok();
     }
-    put_pattern(bits::bits_of(x))
+    put_pattern(rt, bits::bits_of(x))
 }

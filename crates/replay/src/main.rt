@@ -15,6 +15,8 @@ mod player;
 mod segments;
 mod words;
 
+use std::io::Read;
+
 // What is carried from line to line beside the arrays: the byte that comes next, the number of its
 // line, and whether to go on.
 #[derive(Clone, Copy)]
@@ -24,51 +26,57 @@ struct Held {
     goes_on: bool,
 }
 
-fn main() {
+fn main(rt: HostRuntime) {
+    let mut script = rt.stdin();
     let mut kept = [0u32; 25];
     let mut history = [0.0f32; 8192];
     let mut coefs = [0.0f32; 8192];
     let mut input = [0.0f32; 16384];
     let mut output = [0.0f32; 16384];
-    let mut held = start();
-    let mut turns = u64::MAX;
-    while turns > 0 && held.goes_on {
+    let mut held = start(&mut script);
+    for _ in 0..u64::MAX {
+        if !held.goes_on {
+            break;
+        }
         held = turn(
+            &rt,
             held,
             &mut kept,
             &mut history,
             &mut coefs,
             &mut input,
             &mut output,
+            &mut script,
         );
-        turns -= 1;
     }
 }
 
-fn start() -> Held {
+fn start<R: Read>(script: &mut R) -> Held {
     Held {
-        next: lexer::read_byte(),
+        next: lexer::read_byte(script),
         line: 1,
         goes_on: true,
     }
 }
 
 // One line. The byte after it is asked for only once the answer is out, so that a script can be typed.
-fn turn(
+fn turn<R: Read>(
+    rt: &(impl Print + Eprint),
     held: Held,
     kept: &mut [u32; 25],
     history: &mut [f32],
     coefs: &mut [f32],
     input: &mut [f32],
     output: &mut [f32],
+    script: &mut R,
 ) -> Held {
-    let order = orders::read(held.next, kept, input);
+    let order = orders::read(held.next, kept, input, script);
     let changed = player::change(order, *kept, history, coefs, input);
     let played = player::call(order, changed, history, coefs, input, output);
     *kept = played;
-    let goes_on = answer::tell(order.name, held.line, played, history, coefs, output);
+    let goes_on = answer::tell(rt, order.name, held.line, played, history, coefs, output);
     Held {
-        next: lexer::step(order.next),
+        next: lexer::step(order.next, script),
         line: std::num::wrapping_add_u64(held.line, 1),
         goes_on,
     }

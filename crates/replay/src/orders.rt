@@ -11,6 +11,7 @@ use crate::places::{
 use crate::segments::{CONSTANT, Laid};
 use crate::words::{Name, Number};
 use crate::{lexer, segments, words};
+use std::io::Read;
 
 const HASH: u32 = 35;
 
@@ -35,14 +36,14 @@ pub struct Order {
 }
 
 // The order of the line that starts here.
-pub fn read(start: u32, kept: &mut [u32; 25], input: &mut [f32]) -> Order {
-    let name = read_start(start);
-    let slice = read_slice(name.place, name.next);
-    let first = read_first(name.place, slice.next);
-    let second = read_second(name.place, first.next);
-    let pattern = read_pattern(name.place, second.next);
-    let laid = read_samples(name.place, pattern.next, pattern.value, input);
-    let next = read_fields(laid.next, most_fields(name.place), kept);
+pub fn read<R: Read>(start: u32, kept: &mut [u32; 25], input: &mut [f32], script: &mut R) -> Order {
+    let name = read_start(start, script);
+    let slice = read_slice(name.place, name.next, script);
+    let first = read_first(name.place, slice.next, script);
+    let second = read_second(name.place, first.next, script);
+    let pattern = read_pattern(name.place, second.next, script);
+    let laid = read_samples(name.place, pattern.next, pattern.value, input, script);
+    let next = read_fields(laid.next, most_fields(name.place), kept, script);
     let poked = poked_length(slice.place, kept);
     let fits = fits(name.place, first.value, second.value, laid.count, poked);
     Order {
@@ -96,64 +97,75 @@ fn poked_length(slice: usize, kept: &[u32; 25]) -> u32 {
 }
 
 // The line's first word, and on to the next. A remark has no words.
-fn read_start(start: u32) -> Name {
+fn read_start<R: Read>(start: u32, script: &mut R) -> Name {
     if start == HASH {
         return Name {
-            next: lexer::skip_line(start),
+            next: lexer::skip_line(start, script),
             place: 0,
         };
     }
-    let name = words::read_name(start);
+    let name = words::read_name(start, script);
     Name {
-        next: lexer::next_word(name.next),
+        next: lexer::next_word(name.next, script),
         place: name.place,
     }
 }
 
 // The slice of a poke.
-fn read_slice(place: usize, next: u32) -> Name {
+fn read_slice<R: Read>(place: usize, next: u32, script: &mut R) -> Name {
     if !takes_slice(place) {
         return Name { next, place: 0 };
     }
-    let name = words::read_name(next);
+    let name = words::read_name(next, script);
     let fine = (name.place == HISTORY) | (name.place == COEFFICIENTS);
     Name {
-        next: lexer::next_word(lexer::check(name.next, fine)),
+        next: lexer::next_word(lexer::check(name.next, fine), script),
         place: name.place,
     }
 }
 
 // A rate, a length, a room, or where a poke begins.
-fn read_first(place: usize, next: u32) -> Number {
+fn read_first<R: Read>(place: usize, next: u32, script: &mut R) -> Number {
     if (NEW <= place) & (place <= POKES) {
-        return words::argument(next);
+        return words::argument(next, script);
     }
     Number { next, value: 0 }
 }
 
 // The length of the coefficients.
-fn read_second(place: usize, next: u32) -> Number {
+fn read_second<R: Read>(place: usize, next: u32, script: &mut R) -> Number {
     if place == LEND {
-        return words::argument(next);
+        return words::argument(next, script);
     }
     Number { next, value: 0 }
 }
 
 // What fills up, or the one entry of a poke.
-fn read_pattern(place: usize, next: u32) -> Number {
+fn read_pattern<R: Read>(place: usize, next: u32, script: &mut R) -> Number {
     if (place == LEND) | (place == POKE) {
-        return words::read_pattern(next);
+        return words::read_pattern(next, script);
     }
     Number { next, value: 0 }
 }
 
 // Any number of segments for a call, and one for `pokes`. The one entry of a poke is laid as they are.
-fn read_samples(place: usize, next: u32, pattern: u32, input: &mut [f32]) -> Laid {
+fn read_samples<R: Read>(
+    place: usize,
+    next: u32,
+    pattern: u32,
+    input: &mut [f32],
+    script: &mut R,
+) -> Laid {
     if place == POKE {
         return segments::lay_times(CONSTANT, pattern, 1, next, 0, input);
     }
     let fine = (place != POKES) | lexer::has_word(next);
-    segments::segments(lexer::check(next, fine), most_segments(place), input)
+    segments::segments(
+        lexer::check(next, fine),
+        most_segments(place),
+        input,
+        script,
+    )
 }
 
 fn most_segments(place: usize) -> u64 {
@@ -174,32 +186,33 @@ fn most_fields(place: usize) -> u64 {
 }
 
 // Any number of fields, none too; of a field that is there twice the last counts.
-fn read_fields(start: u32, most: u64, kept: &mut [u32; 25]) -> u32 {
+fn read_fields<R: Read>(start: u32, most: u64, kept: &mut [u32; 25], script: &mut R) -> u32 {
     let mut next = start;
-    let mut turns = most;
-    while turns > 0 && lexer::has_word(next) {
-        next = read_field(next, kept);
-        turns -= 1;
+    for _ in 0..most {
+        if !lexer::has_word(next) {
+            break;
+        }
+        next = read_field(next, kept, script);
     }
     next
 }
 
 // FIELD=V, and on to the next word. A name that is no field's spoils the line, and it does no harm
 // that a number is stored.
-fn read_field(start: u32, kept: &mut [u32; 25]) -> u32 {
-    let name = words::read_name(start);
+fn read_field<R: Read>(start: u32, kept: &mut [u32; 25], script: &mut R) -> u32 {
+    let name = words::read_name(start, script);
     let place = name.place;
-    let read = read_value(place, lexer::expect(name.next, EQUALS));
+    let read = read_value(place, lexer::expect(name.next, EQUALS, script), script);
     if place < SUMS {
         kept[place] = read.value;
     }
     let fine = (STATE <= place) & (place < SUMS);
-    lexer::next_word(lexer::check(read.next, fine))
+    lexer::next_word(lexer::check(read.next, fine), script)
 }
 
-fn read_value(place: usize, next: u32) -> Number {
+fn read_value<R: Read>(place: usize, next: u32, script: &mut R) -> Number {
     if place == CUTOFF {
-        return words::read_pattern(next);
+        return words::read_pattern(next, script);
     }
-    words::read_decimal(next)
+    words::read_decimal(next, script)
 }

@@ -67,10 +67,8 @@ fn lend(order: Order, kept: [u32; 25], history: &mut [f32], coefs: &mut [f32]) -
 // All entries from one on take the value of a pattern.
 fn fill(samples: &mut [f32], from: u32, pattern: u32) {
     let value = bits::float_of(pattern);
-    let mut i = from as usize;
-    while i < samples.len() {
+    for i in from as usize..samples.len() {
         samples[i] = value;
-        i += 1;
     }
 }
 
@@ -83,10 +81,8 @@ fn poke(samples: &mut [f32], index: u32, input: &[f32], count: u32) {
 
 fn copy(samples: &mut [f32], input: &[f32]) {
     let end = least(samples.len(), input.len());
-    let mut i = 0;
-    while i < end {
+    for i in 0..end {
         samples[i] = input[i];
-        i += 1;
     }
 }
 

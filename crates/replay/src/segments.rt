@@ -5,6 +5,7 @@ ghost use Rattle.std.specs.Prelude.{◌≤◌, length};
 
 use crate::words::Number;
 use crate::{lexer, words};
+use std::io::Read;
 
 const COLON: u32 = 58;
 
@@ -59,58 +60,61 @@ pub fn least(a: usize, b: usize) -> usize
 }
 
 // At most `most` segments, joined, up to the line's end.
-pub fn segments(next: u32, most: u64, samples: &mut [f32]) -> Laid {
+pub fn segments<R: Read>(next: u32, most: u64, samples: &mut [f32], script: &mut R) -> Laid {
     let mut laid = Laid { next, count: 0 };
-    let mut turns = most;
-    while turns > 0 && lexer::has_word(laid.next) {
-        laid = segment(laid.next, laid.count, samples);
-        turns -= 1;
+    for _ in 0..most {
+        if !lexer::has_word(laid.next) {
+            break;
+        }
+        laid = segment(laid.next, laid.count, samples, script);
     }
     laid
 }
 
 // One segment more, and on to the next word.
-fn segment(kind: u32, count: u32, samples: &mut [f32]) -> Laid {
-    let next = lexer::expect(lexer::step(kind), COLON);
+fn segment<R: Read>(kind: u32, count: u32, samples: &mut [f32], script: &mut R) -> Laid {
+    let next = lexer::expect(lexer::step(kind, script), COLON, script);
     if kind == LISTED {
-        return listed(next, count, samples);
+        return listed(next, count, samples, script);
     }
-    made(kind, next, count, samples)
+    made(kind, next, count, samples, script)
 }
 
 // Patterns with commas between.
-fn listed(next: u32, count: u32, samples: &mut [f32]) -> Laid {
-    let mut laid = entry(next, count, samples);
-    let mut turns = u64::MAX;
-    while turns > 0 && laid.next == COMMA {
-        laid = entry(lexer::step(laid.next), laid.count, samples);
-        turns -= 1;
+fn listed<R: Read>(next: u32, count: u32, samples: &mut [f32], script: &mut R) -> Laid {
+    let mut laid = entry(next, count, samples, script);
+    for _ in 0..u64::MAX {
+        if laid.next != COMMA {
+            break;
+        }
+        let after = lexer::step(laid.next, script);
+        laid = entry(after, laid.count, samples, script);
     }
     Laid {
-        next: lexer::next_word(laid.next),
+        next: lexer::next_word(laid.next, script),
         count: laid.count,
     }
 }
 
-fn entry(next: u32, count: u32, samples: &mut [f32]) -> Laid {
-    let read = words::read_entry(next);
+fn entry<R: Read>(next: u32, count: u32, samples: &mut [f32], script: &mut R) -> Laid {
+    let read = words::read_entry(next, script);
     lay_times(CONSTANT, read.value, 1, read.next, count, samples)
 }
 
 // A segment of the form SEED*COUNT.
-fn made(kind: u32, next: u32, count: u32, samples: &mut [f32]) -> Laid {
-    let seed = read_seed(kind, next);
-    let times = words::argument(lexer::expect(seed.next, STAR));
+fn made<R: Read>(kind: u32, next: u32, count: u32, samples: &mut [f32], script: &mut R) -> Laid {
+    let seed = read_seed(kind, next, script);
+    let times = words::argument(lexer::expect(seed.next, STAR, script), script);
     lay_times(kind, seed.value, times.value, times.next, count, samples)
 }
 
 // A constant's seed is its pattern.
-fn read_seed(kind: u32, next: u32) -> Number {
+fn read_seed<R: Read>(kind: u32, next: u32, script: &mut R) -> Number {
     if kind == CONSTANT {
-        return words::read_pattern(next);
+        return words::read_pattern(next, script);
     }
     let fine = (kind == DENORMAL) | (kind == RANDOM) | (kind == SPECIAL);
-    words::read_decimal(lexer::check(next, fine))
+    words::read_decimal(lexer::check(next, fine), script)
 }
 
 // So many samples more of a kind. Where there is no room for all of them the line is spoiled, and it
@@ -137,11 +141,9 @@ fn lay(kind: u32, seed: u32, from: usize, to: usize, samples: &mut [f32])
     requires { to ≤ length samples.old }
 {
     let mut x = seed;
-    let mut i = from;
-    while i < to {
+    for i in from..to {
         x = following(kind, x);
         samples[i] = sample(kind, x);
-        i += 1;
     }
 }
 

@@ -6,6 +6,7 @@ ghost use Rattle.std.specs.Prelude.{◌≤◌};
 
 use crate::lexer;
 use crate::places::{NAMES, NAN};
+use std::io::Read;
 
 // A name is a number too, whose digits are its letters.
 const LETTERS: u64 = 100;
@@ -38,8 +39,8 @@ struct Digits {
 
 // At most ten letters, as many as the longest name has. No name of nine letters is above MAX_READ, so
 // what a tenth is not added to is no name.
-pub fn read_name(next: u32) -> Name {
-    let digits = read_digits(next, LETTERS, 10);
+pub fn read_name<R: Read>(next: u32, script: &mut R) -> Name {
+    let digits = read_digits(next, LETTERS, 10, script);
     Name {
         next: digits.next,
         place: place_of(digits.value),
@@ -47,32 +48,30 @@ pub fn read_name(next: u32) -> Name {
 }
 
 fn place_of(letters: u64) -> usize {
-    let mut i = 0;
-    while i < 35 {
+    for i in 0..35 {
         if NAMES[i] == letters {
             return i;
         }
-        i += 1;
     }
-    i
+    35
 }
 
 // A decimal number with no sign, up to 4294967295. Zeros may stand before it.
-pub fn read_decimal(next: u32) -> Number {
-    read_number(next, 10, 1, u64::MAX)
+pub fn read_decimal<R: Read>(next: u32, script: &mut R) -> Number {
+    read_number(next, 10, 1, u64::MAX, script)
 }
 
 // The bits of a float: eight hex digits in lower case.
-pub fn read_pattern(next: u32) -> Number {
-    read_number(next, 16, 8, 8)
+pub fn read_pattern<R: Read>(next: u32, script: &mut R) -> Number {
+    read_number(next, 16, 8, 8, script)
 }
 
 // The bits of a float that may also be given as `nan`.
-pub fn read_entry(next: u32) -> Number {
+pub fn read_entry<R: Read>(next: u32, script: &mut R) -> Number {
     if next != 110 {
-        return read_pattern(next);
+        return read_pattern(next, script);
     }
-    let name = read_name(next);
+    let name = read_name(next, script);
     Number {
         next: lexer::check(name.next, name.place == NAN),
         value: 0x7fc0_0000,
@@ -80,19 +79,19 @@ pub fn read_entry(next: u32) -> Number {
 }
 
 // A decimal number, and on to the next word.
-pub fn argument(next: u32) -> Number {
-    let read = read_decimal(next);
+pub fn argument<R: Read>(next: u32, script: &mut R) -> Number {
+    let read = read_decimal(next, script);
     Number {
-        next: lexer::next_word(read.next),
+        next: lexer::next_word(read.next, script),
         value: read.value,
     }
 }
 
 // A number of at least `least` digits.
-fn read_number(next: u32, base: u64, least: u64, most: u64) -> Number
+fn read_number<R: Read>(next: u32, base: u64, least: u64, most: u64, script: &mut R) -> Number
     requires { base ≤ 100 }
 {
-    let digits = read_digits(next, base, most);
+    let digits = read_digits(next, base, most, script);
     let fine = (digits.count >= least) & (digits.value <= MAX_NUMBER);
     Number {
         next: lexer::check(digits.next, fine),
@@ -101,7 +100,7 @@ fn read_number(next: u32, base: u64, least: u64, most: u64) -> Number
 }
 
 // At most `most` digits. One more is left for what comes next, which spoils the line.
-fn read_digits(next: u32, base: u64, most: u64) -> Digits
+fn read_digits<R: Read>(next: u32, base: u64, most: u64, script: &mut R) -> Digits
     requires { base ≤ 100 }
 {
     let mut cursor = next;
@@ -109,7 +108,7 @@ fn read_digits(next: u32, base: u64, most: u64) -> Digits
     let mut count = 0;
     while count < most && digit(cursor, base) < base {
         value = appended(value, base, digit(cursor, base));
-        cursor = lexer::step(cursor);
+        cursor = lexer::step(cursor, script);
         count += 1;
     }
     Digits {

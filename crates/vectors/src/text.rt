@@ -36,10 +36,8 @@ fn appended(value: u64, base: u64, c: u8) -> u64 {
 // The number at from..to, in base 10 or 16.
 pub fn number(line: &[u8], from: usize, to: usize, base: u64) -> u64 {
     let mut value: u64 = 0;
-    let mut i = from;
-    while i < to {
+    for i in from..to {
         value = appended(value, base, byte_at(line, i));
-        i += 1;
     }
     value
 }

@@ -1,0 +1,9 @@
+-- What is read so far fits the bytes, and what is left to fill falls with every turn.
+use Rattle.std.proofs.Common.{length, ◌-◌, ◌≤◌}
+use Rattle.conforming.proofs.files.read_full.Given as goal
+
+abbrev pub invariant-loop-done : goal.invariant-loop-done
+invariant-loop-done g l = l.done ≤ length l.bytes
+
+abbrev pub decreases-loop-done : goal.decreases-loop-done
+decreases-loop-done g l = length l.initial.bytes - l.done
