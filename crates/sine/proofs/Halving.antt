@@ -3,17 +3,17 @@
 -- remainders are. So x % y is x % (y + y), less y if that is not below y. Assumes nothing.
 use mathlib.Core.Path.{◌≡◌, refl, sym, ap, ◌∙◌, subst}
 use mathlib.Core.Bool.{Bool, true, false, cond, ◌&&◌, true≢false}
-use mathlib.Core.Logic.{◌⊎◌, inl, inr, ⊎_elim}
+use mathlib.Core.Logic.{⊎_elim}
 use Prim.Native.Nat.{ℕ, zero, suc, ◌+◌, ◌-◌, ◌*◌, ◌/◌, ◌%◌, ◌^◌, ◌≤◌, ◌<◌}
-use native.Mathlib.Nat.{le_trans, le_of_eq, lt_of_lt_of_le, lt_of_le_of_lt, lt_irrefl, le_of_suc-le-suc, lt_of_not-le, mul_comm, mul_assoc, mul_left_comm, mul_right_comm, mul-one, one-mul, mul-pos, mod-lt, mod-eq_of_lt, mul-add-mod_self_right, mod-le, zero-mul, lt_trans, div-add-mod', mul-lt-mul_of_pos_right, lt_of_mul-lt-mul_right, eq_of_mul-eq-mul_right, mul-sub, add-mul, le_of_mul-le-mul_right, mul-le-mul_right, le-mul_of_pos_right, pow-succ'}
+use native.Mathlib.Nat.{le_trans, le_of_eq, lt_of_lt_of_le, lt_of_le_of_lt, lt_irrefl, le_of_suc-le-suc, lt_of_not-le, mul_comm, mul_assoc, mul_right_comm, mul-one, mul-pos, mod-lt, mod-eq_of_lt, mul-add-mod_self_right, mod-le, zero-mul, lt_trans, div-add-mod', mul-lt-mul_of_pos_right, lt_of_mul-lt-mul_right, eq_of_mul-eq-mul_right, mul-sub, add-mul, le_of_mul-le-mul_right, mul-le-mul_right, le-mul_of_pos_right, pow-succ'}
 use native.Mathlib.Omega.{arith}
 use lib.IntN.{ℤ, pos, negsuc}
 use lib.Dec.{T, leb, ltb, eqb, leb→le, ltb→lt, eqb→eq, not_T, nltb→le, lit<, lit≤}
-use lib.Pow.{pow-add, pow_pos, pow_mono, pow-lt, shl_lt}
-use lib.Ieee.{Float, nan, inf, fin, Format, prec, emax, low, binary64, up, down, round, fits, to_bits, of_bits, size, hid, top, rem, sub, add, neg, sum, lt, le}
+use lib.Pow.{pow-add, pow_pos, pow-lt}
+use lib.Ieee.{Float, nan, inf, fin, Format, prec, emax, low, binary64, up, down, round, fits, to_bits, of_bits, size, hid, top, rem, sub, add, neg, sum, lt}
 use Rattle.sine.specs.Halving.{Grid, at, Halves}
 use lib.Ieee.Exact.{HasValue, round_exact}
-use lib.Ieee.Fits.{up_pos, down_pos, and_l, and_r, round-fits}
+use lib.Ieee.Fits.{down_pos, and_l, and_r, round-fits}
 use lib.Ieee.Scale.{round_same}
 use lib.Ieee.Bits.{of_bits-to_bits, cond_no}
 use borrow.Author.Tests.{le-ltb, lt-ltb}
