@@ -1,6 +1,5 @@
 -- `flat::flat_answer` meets its contract, case by case. Assumes nothing.
 use native.Mathlib.Omega.{arith}
-use borrow.Author.Rules.{rules}
 use Rattle.flat.proofs.flat_answer.Goals as goal
 
 pub overflow_cast-result : goal.overflow_cast-result

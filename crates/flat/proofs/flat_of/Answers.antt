@@ -1,5 +1,4 @@
 -- `flat::flat_of` meets its contract: the kernel by its number, the rest as it is. Assumes nothing.
-use borrow.Author.Rules.{rules}
 use Rattle.flat.specs.Flat.{flat_of}
 use Rattle.flat.proofs.flat_of.Goals as goal
 

@@ -1,7 +1,6 @@
 -- `flat::flat_total` meets its contract, case by case. Assumes nothing.
 use native.Mathlib.Omega.{arith}
 use borrow.Author.Tests.{ne_eqb}
-use borrow.Author.Rules.{rules}
 use Rattle.judge.specs.Refusals.{refusal_number}
 use Rattle.pinned.proofs.Verdicts.{numbered}
 use Rattle.flat.proofs.flat_total.Goals as goal

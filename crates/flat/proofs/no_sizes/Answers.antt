@@ -1,5 +1,4 @@
 -- `flat::no_sizes` meets its contract. Assumes nothing.
-use borrow.Author.Rules.{rules}
 use Rattle.flat.proofs.no_sizes.Goals as goal
 
 pub returns : goal.returns

@@ -1,5 +1,4 @@
 -- `flat::no_state` meets its contract. Assumes nothing.
-use borrow.Author.Rules.{rules}
 use Rattle.flat.proofs.no_state.Goals as goal
 
 pub returns : goal.returns

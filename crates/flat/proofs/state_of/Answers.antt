@@ -1,5 +1,4 @@
 -- `flat::state_of` meets its contract: the kernel of its number, the rest as it is. Assumes nothing.
-use borrow.Author.Rules.{rules}
 use Rattle.flat.specs.Flat.{state_of}
 use Rattle.flat.proofs.state_of.Goals as goal
 

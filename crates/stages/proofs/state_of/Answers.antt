@@ -1,5 +1,4 @@
 -- `stages::state_of` meets its contract, case by case. Assumes nothing.
-use borrow.Author.Rules.{rules}
 use Rattle.stages.proofs.state_of.Goals as goal
 
 pub returns-in-Refused : goal.returns-in-Refused

@@ -1,5 +1,4 @@
 -- `stages::written_of` meets its contract, case by case. Assumes nothing.
-use borrow.Author.Rules.{rules}
 use Rattle.stages.proofs.written_of.Goals as goal
 
 pub returns-in-Accepted : goal.returns-in-Accepted
