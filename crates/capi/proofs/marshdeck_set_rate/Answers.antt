@@ -1,7 +1,6 @@
 -- `marshdeck_set_rate` meets its contract: no state has the numbers, or the resampler was called with the one that has. Assumes nothing.
 use mathlib.Core.Path.{◌≡◌, sym, ◌∙◌}
 use mathlib.Core.Bool.{true}
-use borrow.Author.Tests.{not-true, not-false}
 use Rattle.flat.specs.Flat.{is_state}
 use Rattle.capi.proofs.Counts.{rate_within}
 use Rattle.capi.proofs.Calls.{no_rate, sets_rate}

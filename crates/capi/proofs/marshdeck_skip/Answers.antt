@@ -1,7 +1,6 @@
 -- `marshdeck_skip` meets its contract: no state has the numbers, or the resampler was called with the one that has. Assumes nothing.
 use mathlib.Core.Path.{◌≡◌, sym, ◌∙◌}
 use mathlib.Core.Bool.{true}
-use borrow.Author.Tests.{not-true, not-false}
 use Rattle.quality.specs.House.{house}
 use Rattle.state.specs.declared.ResamplerState.{ResamplerState}
 use Rattle.resampler.specs.Entries.{skip_told}
