@@ -1,6 +1,6 @@
 /* Marshdeck's resampler for C: one channel of f32, from any source rate in limits to a target rate.
  *
- * Link with libcapi.a, which `tools/archive` writes for x86-64 Linux, and with -lm (it calls fmod). Nothing
+ * Link with libcapi.a, which `tools/archive` writes for x86-64 Linux (-lm does no harm, and is not needed). Nothing
  * here allocates, keeps a pointer, or has a state of its own: all that is kept between two calls is in the
  * caller's marshdeck_state and in the two buffers that the caller lends. Calls on different states and buffers
  * may run at the same time.
