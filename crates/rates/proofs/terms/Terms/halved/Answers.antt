@@ -1,4 +1,4 @@
--- `rates::halve` meets its contract. The invariant: what is left has been halved for each power before the x-th. The measure is the
+-- `rates::terms::Terms::halved` meets its contract. The invariant: what is left has been halved for each power before the x-th. The measure is the
 -- number of powers to come. Assumes nothing.
 use mathlib.Core.Path.{◌≡◌, sym, ◌∙◌, ap}
 use Prim.Native.Nat.{ℕ, suc, ◌+◌, ◌-◌, ◌*◌, ◌/◌, ◌%◌, ◌^◌, ◌≤◌, ◌<◌}
@@ -8,8 +8,8 @@ use lib.Dec.{lit<}
 use lib.Pow.{shl_exact, pow_mono}
 use Rattle.rates.specs.Setting.{halved}
 use Rattle.rates.proofs.Numbers.{halved_none, halved_more, halved_same}
-use Rattle.rates.proofs.halve.Goals as goal
-use Rattle.rates.proofs.halve.Goals.{then-x-den, else-x-den}
+use Rattle.rates.proofs.terms.Terms.halved.Goals as goal
+use Rattle.rates.proofs.terms.Terms.halved.Goals.{then-x-self, else-x-self}
 
 -- one turn at x
 module _ (num den m x : ℕ) (from : 1 ≤ x) (to : x ≤ 4) where
@@ -32,30 +32,30 @@ module _ (num den m x : ℕ) (from : 1 ≤ x) (to : x ≤ 4) where
   keeps left e h = e ∙ sym (halved_same num den m (x - 1) (rw power-is at h)) ∙ next
 
 pub loop-x-init : goal.loop-x-init
-loop-x-init c = (omega arith, omega arith, sym (halved_none c.args.num c.args.den c.args.oversample))
+loop-x-init c = (omega arith, omega arith, sym (halved_none c.args.self.num c.args.self.den c.args.self.row.oversample))
 
 pub overflow_mul-x : goal.overflow_mul-x
 overflow_mul-x c =
-    let a = c.args in
+    let a = c.args.self in
     let x = c.loop-x.x in
-    omega (arith, product_to a.num a.den a.oversample x (omega arith) (omega arith))
+    omega (arith, product_to a.num a.den a.row.oversample x (omega arith) (omega arith))
 
 pub loop-x-preserved : goal.loop-x-preserved
 loop-x-preserved c =
-    let a = c.args in
+    let a = c.args.self in
     let l = c.loop-x in
     let to : l.x ≤ 4 = omega arith in (
       omega arith,
       omega arith,
-      elim c.if-x-den.branch [
-        | then-x-den w ↦ w.left-is ∙ halves a.num a.den a.oversample l.x l.invariant.0 to l.left l.invariant.2 w.if-x-den.true
-        | else-x-den w ↦ w.left-is ∙ keeps a.num a.den a.oversample l.x l.invariant.0 to l.left l.invariant.2 w.if-x-den.false
+      elim c.if-x-self.branch [
+        | then-x-self w ↦ w.left-is ∙ halves a.num a.den a.row.oversample l.x l.invariant.0 to l.left l.invariant.2 w.if-x-self.true
+        | else-x-self w ↦ w.left-is ∙ keeps a.num a.den a.row.oversample l.x l.invariant.0 to l.left l.invariant.2 w.if-x-self.false
       ],
     )
 
 pub returns : goal.returns
 returns c =
-    let a = c.args in
+    let a = c.args.self in
     let l = c.loop-x in
     let last : l.x - 1 ≡ 4 = omega arith in
-    l.invariant.2 ∙ ap (λ k. halved a.num a.den k a.oversample) last
+    l.invariant.2 ∙ ap (λ k. halved a.num a.den k a.row.oversample) last
