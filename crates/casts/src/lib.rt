@@ -1,5 +1,5 @@
-// Casts of the Rust that Rattle's `as` leaves undefined, worked out from the bits: f64 to f32, and
-// the floor of an f32 to usize. Beside them the one that `as` has, u32 to f32 where it is exact.
+// Casts of the Rust that Rattle's `as` leaves undefined: f64 to f32, worked out from the bits, and the
+// floor of an f32 to usize. Beside them the one that `as` has, u32 to f32 where it is exact.
 // From f32 to f64 the kit's `std::num::f32_to_f64_with_nan` serves.
 #![tactic(auto)]
 
@@ -56,6 +56,7 @@ fn narrow_pattern(rest: u64) -> u64
 
 // The f32 nearest to x, a tie to the even one, as Rust's `x as f32`. Zeros keep their sign, what is
 // too large gives an infinity, and a NaN gives a NaN.
+// Not the library's `nearest_f64_to_f32_with_nan`: the edits `narrow_late_infinity` and `narrow_ties_up` change steps of this.
 pub fn narrow(x: f64) -> f32
     ensures { result ≡ narrowed x }
 {
@@ -75,13 +76,7 @@ pub fn narrow(x: f64) -> f32
 pub fn floor(y: f32) -> usize
     ensures { result ≡ floor_of y }
 {
-    if y > 0.0 {
-        if y < 18446744073709551616.0 {
-            return std::num::truncating_f32_to_u64(y) as usize;
-        }
-        return usize::MAX;
-    }
-    0
+    std::num::saturating_f32_to_usize(y)
 }
 
 // n as an f32. Up to 2^24 every whole number is one, so nothing is rounded.
