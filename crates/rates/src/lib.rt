@@ -84,6 +84,7 @@ fn kernel_for(n: u32, oversample: u32, den: u32) -> Kernel
 }
 
 // How many coefficients a kernel has; without one there are none.
+// Three bare bounds and no struct: `ResamplerState::setting` promises its answer for just these.
 pub fn coefficients(kernel: Kernel, n: u32, oversample: u32, den: u32) -> u32
     requires { (n ≤ 7680) × (oversample ≤ 16) × (den ≤ 192000) }
     ensures { result ≡ coefficients_of kernel n oversample den }

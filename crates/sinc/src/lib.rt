@@ -6,10 +6,9 @@ ghost use Rattle.std.specs.Prelude.{◌≡◌, ◌<◌};
 ghost use Rattle.window.specs.Window.{NotAboveOne};
 ghost use Rattle.sinc.specs.Sinc.{MirrorFits, place_at, windowed_sinc, sinc_at};
 
-use window::compute_func;
+use std::f64::consts::PI;
 
-// The f64 nearest pi.
-const PI: f64 = 3.141592653589793;
+use window::compute_func;
 
 // Where the window is asked for x.
 fn place_at(x: f32, n: u32) -> f32
