@@ -7,7 +7,6 @@ ghost use Rattle.window.specs.Window.{NotAboveOne};
 ghost use Rattle.sinc.specs.Sinc.{MirrorFits, place_at, windowed_sinc, sinc_at};
 
 use std::f64::consts::PI;
-
 use window::compute_func;
 
 // Where the window is asked for x.

