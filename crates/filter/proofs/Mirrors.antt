@@ -3,7 +3,7 @@
 use mathlib.Core.Path.{◌≡◌, sym, ap, ◌∙◌, subst}
 use mathlib.Core.List.{List, ◌++◌}
 use Prim.Native.Nat.{ℕ, ◌+◌, ◌≤◌, ◌<◌}
-use native.Mathlib.Nat.{le_refl, zero-add}
+use native.Mathlib.Nat.{zero-add}
 use native.Mathlib.Omega.{arith}
 use lib.ListN.{length, take, drop, set, get_or, get_or-append}
 use lib.Seq.{paste, length_paste_head, get_or-take}
@@ -25,7 +25,6 @@ module _ (s : Setting) (d mem : List Float) (k : ℕ) (h : SettingFits s (length
   next_fits =
       let e = length_table s (length d) h in
       record {
-        fits = record { n_some = h.n_some; den_some = h.den_some; oversample_some = h.oversample_some; count = h.count; exact = h.exact; room = le_refl s.coefs };
         room = omega (arith, p.same, h.room);
         more = l;
         written =
@@ -41,13 +40,13 @@ module _ (s : Setting) (d mem : List Float) (k : ℕ) (h : SettingFits s (length
       subst (λ (i : ℕ). Pasted d 0 (table_of s) s.coefs (set mem i v) (k + 1)) (zero-add k)
       (goes_on d 0 (table_of s) s.coefs p nan (is ∙ sym (get_or_table s (length d) h k l)) l (omega (arith, h.room)) (omega arith))
 
-pub mirror_fits : (s : Setting) (k : ℕ) (coefs : List Float) (x y : Float) (m : ℕ) → NextFits s k coefs
+pub mirror_fits : (s : Setting) (k : ℕ) (coefs : List Float) (x y : Float) (m : ℕ) → SettingFits s s.coefs → NextFits s k coefs
     → x ≡ coordinate_of s k → m < k → y ≡ coordinate_of s m → MirrorFits s.cutoff x s.filt_len y (get_or coefs m nan)
 unfolding entry_of
-mirror_fits s k coefs x y m h x-is before y-is =
+mirror_fits s k coefs x y m f h x-is before y-is =
     record {
-      n_some = h.fits.n_some;
-      x_real = rw x-is (coordinate_real s s.coefs h.fits k h.more);
-      y_real = rw y-is (coordinate_real s s.coefs h.fits m (omega (arith, h.more)));
+      n_some = f.n_some;
+      x_real = rw x-is (coordinate_real s s.coefs f k h.more);
+      y_real = rw y-is (coordinate_real s s.coefs f m (omega (arith, h.more)));
       is_known = rw y-is (h.written m before);
     }

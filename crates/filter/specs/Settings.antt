@@ -46,7 +46,6 @@ pub record SettingFits (s : Setting) (length : ℕ) : Type 0 where
 
 -- what entry k of the table asks where those below it are written to coefs already
 pub record NextFits (s : Setting) (k : ℕ) (coefs : List Float) : Type 0 where
-  pub fits : SettingFits s s.coefs
   pub room : s.coefs ≤ length coefs
   pub more : k < s.coefs
   pub written : (i : ℕ) → i < k → get_or coefs i nan ≡ entry_of s i

@@ -9,7 +9,7 @@ ghost use Rattle.std.proofs.Math.Seq.{paste};
 ghost use Rattle.filter.specs.Settings.{SettingFits, table_of};
 
 use rates::Setting;
-use tables::entry;
+use tables::Table;
 
 // Writes the table of a setting to the first entries of coefs. What lies past it stays as it was:
 // of an older table that was longer the rest is left, where the Rust fills it too. Without a kernel
@@ -20,6 +20,6 @@ pub fn fill_table(coefs: &mut [f32], setting: Setting)
 {
     // By index, since an entry may be taken from those that are written already.
     for k in 0..setting.coefs {
-        coefs[k as usize] = entry(coefs, setting, k);
+        coefs[k as usize] = Table { setting }.entry(coefs, k);
     }
 }

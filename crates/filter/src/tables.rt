@@ -24,51 +24,61 @@ fn interpolated_x(n: u32, oversample: u32, i: u32) -> f32
     (casts::small(i) - 4.0) / casts::small(oversample) - casts::small(n) / 2.0
 }
 
-// The coordinate of entry k. The direct table goes row after row, each of n entries. Without a
-// kernel there is no entry, and a NaN stands for its coordinate.
-fn coordinate(setting: Setting, k: u32) -> f32
-    requires { SettingFits setting setting.coefs × (k < setting.coefs) }
-    ensures { result ≡ coordinate_of setting k }
-{
-    let n = setting.filt_len;
-    match setting.kernel {
-        Kernel::Unset => f32::NAN,
-        Kernel::Direct => direct_x(n, setting.den, k / n, k % n),
-        Kernel::Interpolated => interpolated_x(n, setting.oversample, k),
-    }
+// A setting with a kernel or without one, whose table's coordinates an f32 holds.
+#[derive(Clone, Copy)]
+pub struct Table {
+    pub setting: Setting,
+    ghost fits: { SettingFits setting setting.coefs },
 }
 
-// The entry that has the negated coordinate of entry k, as far as f32 has both exactly. In a direct
-// table row 0 is its own mirror image but for its last entry, and the rows after it together are
-// theirs; in an interpolated one every entry but the first has one. Only that the entry lies in the
-// table is promised: the caller tests what it finds there.
-fn mirror_of(setting: Setting, k: u32) -> Option<u32>
-    requires { SettingFits setting setting.coefs × (k < setting.coefs) }
-    ensures { IfSome result (λ m. m < setting.coefs) }
-{
-    let n = setting.filt_len;
-    match setting.kernel {
-        Kernel::Direct if k < n => n.checked_sub(k + 2),
-        Kernel::Direct => Some(setting.coefs + n - 1 - k),
-        Kernel::Interpolated if 0 < k => Some(setting.coefs - k),
-        Kernel::Unset | Kernel::Interpolated => None,
-    }
-}
-
-// Entry k, where those below it are written. Where the one at the negated coordinate is among them,
-// it is the same.
-pub fn entry(coefs: &[f32], setting: Setting, k: u32) -> f32
-    requires { NextFits setting k coefs.now }
-    ensures { result ≡ entry_of setting k }
-{
-    let n = setting.filt_len;
-    let cutoff = setting.cutoff;
-    let x = coordinate(setting, k);
-    match mirror_of(setting, k) {
-        Some(m) if m < k => {
-            let y = coordinate(setting, m);
-            sinc_by_mirror(cutoff, x, n, y, coefs[m as usize])
+impl Table {
+    // The coordinate of entry k. The direct table goes row after row, each of n entries. Without a
+    // kernel there is no entry, and a NaN stands for its coordinate.
+    fn coordinate(self, k: u32) -> f32
+        requires { k < self.setting.coefs }
+        ensures { result ≡ coordinate_of self.setting k }
+    {
+        let n = self.setting.filt_len;
+        match self.setting.kernel {
+            Kernel::Unset => f32::NAN,
+            Kernel::Direct => direct_x(n, self.setting.den, k / n, k % n),
+            Kernel::Interpolated => interpolated_x(n, self.setting.oversample, k),
         }
-        _ => sinc(cutoff, x, n),
+    }
+
+    // The entry that has the negated coordinate of entry k, as far as f32 has both exactly. In a
+    // direct table row 0 is its own mirror image but for its last entry, and the rows after it
+    // together are theirs; in an interpolated one every entry but the first has one. Only that the
+    // entry lies in the table is promised: the caller tests what it finds there.
+    fn mirror_of(self, k: u32) -> Option<u32>
+        requires { k < self.setting.coefs }
+        ensures { IfSome result (λ m. m < self.setting.coefs) }
+    {
+        let n = self.setting.filt_len;
+        let coefs = self.setting.coefs;
+        match self.setting.kernel {
+            Kernel::Direct if k < n => n.checked_sub(k + 2),
+            Kernel::Direct => Some(coefs + n - 1 - k),
+            Kernel::Interpolated if 0 < k => Some(coefs - k),
+            Kernel::Unset | Kernel::Interpolated => None,
+        }
+    }
+
+    // Entry k, where those below it are written. Where the one at the negated coordinate is among
+    // them, it is the same.
+    pub fn entry(self, coefs: &[f32], k: u32) -> f32
+        requires { NextFits self.setting k coefs.now }
+        ensures { result ≡ entry_of self.setting k }
+    {
+        let n = self.setting.filt_len;
+        let cutoff = self.setting.cutoff;
+        let x = self.coordinate(k);
+        match self.mirror_of(k) {
+            Some(m) if m < k => {
+                let y = self.coordinate(m);
+                sinc_by_mirror(cutoff, x, n, y, coefs[m as usize])
+            }
+            _ => sinc(cutoff, x, n),
+        }
     }
 }

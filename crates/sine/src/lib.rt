@@ -12,9 +12,8 @@ ghost use Rattle.math.specs.Sign.{magnitude};
 ghost use Rattle.sine.specs.Halving.{Halves};
 ghost use Rattle.sine.specs.Sine.{C, reduced, series, sine_at};
 
-use std::f64::consts::PI;
-
 use math::{abs, times_sign};
+use std::f64::consts::PI;
 
 // What the reduction leaves of an angle: r, from 0 to a quarter turn, and whether the sign of its
 // sine is flipped. The flip is no Option: r is there either way.
