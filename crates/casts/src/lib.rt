@@ -1,5 +1,5 @@
-// Casts of the Rust that Rattle's `as` leaves undefined: f64 to f32, worked out from the bits, and the
-// floor of an f32 to usize. Beside them the one that `as` has, u32 to f32 where it is exact.
+// Casts of the Rust that Rattle's `as` leaves undefined: f64 to f32, worked out from the bits, and
+// the floor of an f32 to usize. Beside them the one that `as` has, u32 to f32 where it is exact.
 // From f32 to f64 the kit's `std::num::f32_to_f64_with_nan` serves.
 #![tactic(auto)]
 
@@ -56,7 +56,7 @@ fn narrow_pattern(rest: u64) -> u64
 
 // The f32 nearest to x, a tie to the even one, as Rust's `x as f32`. Zeros keep their sign, what is
 // too large gives an infinity, and a NaN gives a NaN.
-// Not the library's `nearest_f64_to_f32_with_nan`: the edits `narrow_late_infinity` and `narrow_ties_up` change steps of this.
+// Not the library's `nearest_f64_to_f32_with_nan`: the edits `narrow_*` change two steps of this.
 pub fn narrow(x: f64) -> f32
     ensures { result ≡ narrowed x }
 {

@@ -11,9 +11,9 @@ ghost use Rattle.filter.specs.Settings.{SettingFits, table_of};
 use rates::Setting;
 use tables::Table;
 
-// Writes the table of a setting to the first entries of coefs. What lies past it stays as it was:
-// of an older table that was longer the rest is left, where the Rust fills it too. Without a kernel
-// nothing is written.
+// Writes the table of a setting to the first entries of coefs: the Rust's `use_direct` and
+// `not_use_direct`. What lies past it stays as it was: of an older table that was longer the rest is
+// left, where the Rust fills it too. Without a kernel nothing is written.
 pub fn fill_table(coefs: &mut [f32], setting: Setting)
     requires { SettingFits setting (length coefs.old) }
     ensures { coefs.new ≡ paste coefs.old 0 (table_of setting) setting.coefs }
