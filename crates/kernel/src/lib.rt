@@ -17,10 +17,8 @@ pub fn direct_step(window: &[f32], coefs: &[f32], n: usize) -> f32
     ensures { result ≡ direct_sum n coefs.now window.now }
 {
     let mut sum: f32 = 0.0;
-    let mut j = 0;
-    while j < n {
-        sum = sum + coefs[j] * window[j];
-        j += 1;
+    for j in 0..n {
+        sum += coefs[j] * window[j];
     }
     sum
 }
@@ -67,8 +65,7 @@ pub fn spread(accum: [f32; 4], curr_in: f32, coefs: &[f32], idx: usize) -> [f32;
     ]
 }
 
-// The four sums, from those of the first `from` samples on to those of the first `to`. The Rust works
-// out each sample's index anew, `2 + (j + 1) * oversample - offset`; here it goes up by oversample.
+// The four sums, from those of the first `from` samples on to those of the first `to`.
 pub fn sums_on(
     sums: [f32; 4],
     window: &[f32],
@@ -84,13 +81,10 @@ pub fn sums_on(
     ensures { result ≡ four_sums oversample offset to coefs.now window.now }
 {
     let mut accum = sums;
-    let mut idx = 2 + (from + 1) * oversample - offset;
-    let mut j = from;
-    while j < to {
+    for j in from..to {
+        let idx = 2 + (j + 1) * oversample - offset;
         let next = spread(accum, window[j], coefs, idx);
         accum = next;
-        idx += oversample;
-        j += 1;
     }
     accum
 }
