@@ -10,7 +10,6 @@ ghost use Rattle.rounds.specs.Rounds.{place_of, Playable, RoundFits, Filled};
 ghost use Rattle.rounds.specs.Runs.{Numbered, RunFits, Stands, four_outputs, Ran, WeaveFits};
 
 use crate::{Place, advance, output_at, phase_at};
-use abreast::Shifts;
 use lanes::Weave;
 use rates::{Kernel, Setting};
 
@@ -63,23 +62,16 @@ fn output_four(
     requires stands { Stands setting (place_of a) (length mem.now) × Stands setting (place_of b) (length mem.now) × Stands setting (place_of c) (length mem.now) × Stands setting (place_of d) (length mem.now) }
     ensures { result ≡ four_outputs setting coefs.now mem.now (place_of a) (place_of b) (place_of c) (place_of d) }
 {
-    let at = a.position;
-    let shifts = Shifts {
-        b: b.position - at,
-        c: c.position - at,
-        d: d.position - at,
-    };
-    abreast::step_four(
+    let phases = [
         phase_at(setting, a.phase),
         phase_at(setting, b.phase),
         phase_at(setting, c.phase),
         phase_at(setting, d.phase),
-        &mem[at..],
-        shifts,
-        coefs,
-        setting.filt_len as usize,
-        setting.oversample as usize,
-    )
+    ];
+    let starts = [a.position, b.position, c.position, d.position];
+    let n = setting.filt_len as usize;
+    let oversample = setting.oversample as usize;
+    abreast::step_four(phases, mem, starts, coefs, n, oversample)
 }
 
 // The outputs by fours, as long as there are four.
