@@ -1,6 +1,6 @@
 -- `rounds::runs::output_four` meets its contract: each phase reaches no further than the table, and each output is that at its place.
 -- Assumes nothing.
-use Rattle.std.proofs.Common.{refl, sym, ◌∙◌, arith}
+use Rattle.std.proofs.Common.{refl, sym, ◌∙◌}
 use Rattle.kernel.proofs.Parts.{reaches_at}
 use Rattle.abreast.proofs.Four.{four_is}
 use Rattle.rounds.specs.Rounds.{place_of}
