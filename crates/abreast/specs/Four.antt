@@ -1,7 +1,5 @@
 -- Document 01, "One output, one call": four outputs, each of its phase and its window. Assumes nothing.
 use Rattle.std.specs.Prelude.{ℕ, List, [], ◌∷◌, drop, slice_index, slice_index_or, Float}
-use Rattle.kernel.specs.Sums.{at}
-use Rattle.kernel.specs.Interpolated.{interpolated}
 use Rattle.kernel.specs.Step.{step_of, Reaches}
 use Rattle.kernel.specs.declared.Phase.{Phase}
 use Rattle.kernel.specs.declared.Phase.TheVariants.{Direct}
@@ -17,15 +15,6 @@ four_steps phases n oversample coefs starts history =
     ∷ step_of (phase phases 1) n oversample coefs (drop (slice_index starts 1) history)
     ∷ step_of (phase phases 2) n oversample coefs (drop (slice_index starts 2) history)
     ∷ step_of (phase phases 3) n oversample coefs (drop (slice_index starts 3) history)
-    ∷ []
-
--- the same where all four are interpolated
-abbrev pub four_interpolated : ℕ → List ℕ → List Float → ℕ → List Float → List ℕ → List Float → List Float
-four_interpolated oversample offsets fracs n coefs starts history =
-    interpolated oversample (slice_index offsets 0) (at fracs 0) n coefs (drop (slice_index starts 0) history)
-    ∷ interpolated oversample (slice_index offsets 1) (at fracs 1) n coefs (drop (slice_index starts 1) history)
-    ∷ interpolated oversample (slice_index offsets 2) (at fracs 2) n coefs (drop (slice_index starts 2) history)
-    ∷ interpolated oversample (slice_index offsets 3) (at fracs 3) n coefs (drop (slice_index starts 3) history)
     ∷ []
 
 -- the table holds what each phase reads

@@ -3,11 +3,11 @@
 // waits for another's sum. What comes out is `kernel::step`'s, bit for bit: each contract says so.
 #![tactic(auto)]
 
-ghost use Rattle.std.specs.Prelude.{◌≡◌, ◌+◌, ◌-◌, ◌*◌, ◌≤◌, ◌<◌, length, drop, slice_index};
-ghost use Rattle.kernel.specs.Interpolated.{tap, four_sums};
+ghost use Rattle.std.specs.Prelude.{◌≡◌, ◌+◌, ◌-◌, ◌*◌, ◌≤◌, ◌<◌, length, slice_index};
+ghost use Rattle.kernel.specs.Interpolated.{tap};
 ghost use Rattle.abreast.specs.Rows.{four_rows, four_taps};
-ghost use Rattle.abreast.specs.Sums.{WindowsWithin, FourTapsWithin, sums_at, all_sums};
-ghost use Rattle.abreast.specs.Four.{four_interpolated, four_steps, FourReach};
+ghost use Rattle.abreast.specs.Within.{WindowsWithin, FourTapsWithin};
+ghost use Rattle.abreast.specs.Four.{four_steps, FourReach};
 
 use kernel::{Phase, fold_sums, spread, step, sums_on};
 
@@ -96,12 +96,14 @@ struct Overlap<'a, 'b> {
 }
 
 impl Overlap<'_, '_> {
+    ghost use Rattle.abreast.specs.Interpolated.{output_sums, sums_at, all_sums, four_interpolated};
+
     // The four sums of output k, from those of the first `from` samples of its window on to those of
     // the first `to`.
     fn output_on(&self, k: usize, sums: [f32; 4], from: usize, to: usize) -> [f32; 4]
         requires places { (k < 4) × (from ≤ to) × (to ≤ self.now.windows.n) }
-        requires sums_value { sums ≡ four_sums self.now.oversample (slice_index self.now.offsets k) from self.now.coefs.now (drop (slice_index self.now.windows.starts k) self.now.windows.history.now) }
-        ensures { result ≡ four_sums self.now.oversample (slice_index self.now.offsets k) to self.now.coefs.now (drop (slice_index self.now.windows.starts k) self.now.windows.history.now) }
+        requires sums_value { sums ≡ output_sums self.now k from }
+        ensures { result ≡ output_sums self.now k to }
     {
         let start = self.windows.starts[k];
         sums_on(
@@ -117,7 +119,7 @@ impl Overlap<'_, '_> {
 
     // The sums of the samples before the last window starts.
     fn sums_before(&self) -> [[f32; 4]; 4]
-        ensures { result ≡ sums_at self.now.oversample self.now.offsets self.now.windows.starts self.now.coefs.now self.now.windows.history.now (slice_index self.now.windows.starts 3) }
+        ensures { result ≡ sums_at self.now (slice_index self.now.windows.starts 3) }
     {
         let none: [f32; 4] = [0.0; 4];
         let [a, b, c, d] = self.windows.starts;
@@ -141,8 +143,8 @@ impl Overlap<'_, '_> {
     // Those of the samples that lie in all four windows: a sample is read once, and goes to all four
     // outputs.
     fn sums_within(&self, sums: [[f32; 4]; 4]) -> [[f32; 4]; 4]
-        requires { sums ≡ sums_at self.now.oversample self.now.offsets self.now.windows.starts self.now.coefs.now self.now.windows.history.now (slice_index self.now.windows.starts 3) }
-        ensures { result ≡ sums_at self.now.oversample self.now.offsets self.now.windows.starts self.now.coefs.now self.now.windows.history.now (slice_index self.now.windows.starts 0 + self.now.windows.n) }
+        requires { sums ≡ sums_at self.now (slice_index self.now.windows.starts 3) }
+        ensures { result ≡ sums_at self.now (slice_index self.now.windows.starts 0 + self.now.windows.n) }
     {
         let start = self.windows.starts[3];
         let end = self.windows.starts[0] + self.windows.n;
@@ -167,8 +169,8 @@ impl Overlap<'_, '_> {
 
     // Those of the samples after the first window's end.
     fn sums_after(&self, sums: [[f32; 4]; 4]) -> [[f32; 4]; 4]
-        requires { sums ≡ sums_at self.now.oversample self.now.offsets self.now.windows.starts self.now.coefs.now self.now.windows.history.now (slice_index self.now.windows.starts 0 + self.now.windows.n) }
-        ensures { result ≡ all_sums self.now.oversample self.now.offsets self.now.windows.starts self.now.coefs.now self.now.windows.history.now self.now.windows.n }
+        requires { sums ≡ sums_at self.now (slice_index self.now.windows.starts 0 + self.now.windows.n) }
+        ensures { result ≡ all_sums self.now }
     {
         let n = self.windows.n;
         let [a, b, c, d] = self.windows.starts;
@@ -182,7 +184,7 @@ impl Overlap<'_, '_> {
 
     // The four outputs.
     fn interpolate_four(&self, fracs: [f32; 4]) -> [f32; 4]
-        ensures { result ≡ four_interpolated self.now.oversample self.now.offsets fracs self.now.windows.n self.now.coefs.now self.now.windows.starts self.now.windows.history.now }
+        ensures { result ≡ four_interpolated self.now fracs }
     {
         let before = self.sums_before();
         let within = self.sums_within(before);

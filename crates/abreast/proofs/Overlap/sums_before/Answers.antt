@@ -3,7 +3,7 @@ use Rattle.std.proofs.Common.{refl, sym, ap, slice_index}
 use native.Mathlib.Nat.{sub_self}
 use lib.Ieee.{of_bits}
 use Rattle.kernel.specs.Interpolated.{four_sums}
-use Rattle.abreast.specs.Sums.{output_sums}
+use Rattle.abreast.specs.Interpolated.{output_sums}
 use Rattle.abreast.proofs.Four.{four_is}
 use Rattle.abreast.proofs.Overlap.sums_before.Goals as goal
 
@@ -24,4 +24,4 @@ unfolding four_sums of_bits
 returns c =
     let s = c.args.self.now in
     four_is c.output_on.ensures c.output_on-2.ensures c.output_on-3.ensures
-    (ap (output_sums s.oversample s.offsets s.windows.starts s.coefs.now s.windows.history.now 3) (sym (sub_self (slice_index s.windows.starts 3))))
+    (ap (output_sums s 3) (sym (sub_self (slice_index s.windows.starts 3))))
