@@ -1,67 +1,89 @@
 -- What one turn of a loop adds to four outputs. Assumes nothing.
-use Rattle.std.proofs.Common.{◌≡◌, ℕ, ◌+◌, ◌-◌, ◌*◌, ◌<◌, ◌≤◌, List, refl, sym, ap, ◌∙◌, drop, slice_index, mul-le-mul_right, add-mul, one-mul, arith, get_or-drop}
+use Rattle.std.proofs.Common.{◌≡◌, ℕ, ◌+◌, ◌-◌, ◌*◌, ◌<◌, ◌≤◌, List, length, refl, sym, ap, ◌∙◌, drop, slice_index, mul-le-mul_right, add-mul, one-mul, arith, get_or-drop}
 use lib.Ieee.{Float, nan}
 use Rattle.math.specs.Operators.{◌+ᶠ◌, ◌*ᶠ◌}
 use Rattle.kernel.specs.Sums.{at, direct_sum}
-use Rattle.kernel.specs.Interpolated.{tap, TapsWithin, spread, four_sums}
+use Rattle.kernel.specs.Interpolated.{tap, TapsWithin, spread}
 use Rattle.kernel.proofs.Turns.{sum_turn, four_turn}
-use Rattle.abreast.specs.Rows.{four_rows, four_taps}
+use Rattle.abreast.specs.declared.Windows.{Windows}
+use Rattle.abreast.specs.declared.Overlap.{Overlap}
+use Rattle.abreast.specs.Rows.{window_of, four_rows, four_taps}
+use Rattle.abreast.specs.Interpolated.{output_sums}
 use Rattle.abreast.proofs.Four.{four_is}
 
--- one more tap of a row, over the window that starts at a
-tap_turn : (row history : List Float) (a j : ℕ)
-    → direct_sum j row (drop a history) +ᶠ at row j *ᶠ at history (a + j) ≡ direct_sum (j + 1) row (drop a history)
-tap_turn row history a j =
-    ap (λ (x : Float). direct_sum j row (drop a history) +ᶠ at row j *ᶠ x) (sym (get_or-drop a history j nan)) ∙ sum_turn _ j refl
+module _ (w : Windows) (row : List Float) where
+  -- one more tap of a row over window k
+  tap_turn : (k j : ℕ)
+      → direct_sum j row (window_of w k) +ᶠ at row j *ᶠ at w.history.now (slice_index w.starts k + j) ≡ direct_sum (j + 1) row (window_of w k)
+  tap_turn k j =
+      ap (λ (x : Float). direct_sum j row (window_of w k) +ᶠ at row j *ᶠ x) (sym (get_or-drop (slice_index w.starts k) w.history.now j nan))
+      ∙ sum_turn _ j refl
 
--- and over all four
-pub rows_turn : (row : List Float) (starts : List ℕ) (history : List Float) (j : ℕ) {s r : List Float} → s ≡ four_rows j row starts history
-    → r ≡ four_taps s row starts history j → r ≡ four_rows (j + 1) row starts history
-rows_turn row starts history j e g =
-    g
-    ∙ ap (λ (l : List Float). four_taps l row starts history j) e
-    ∙ four_is
-    (tap_turn row history (slice_index starts 0) j)
-    (tap_turn row history (slice_index starts 1) j)
-    (tap_turn row history (slice_index starts 2) j)
-    (tap_turn row history (slice_index starts 3) j)
+  -- and over all four
+  pub rows_turn : (j : ℕ) {s r : List Float} → s ≡ four_rows w j row → r ≡ four_taps w s row j → r ≡ four_rows w (j + 1) row
+  rows_turn j e g =
+      g ∙ ap (λ (l : List Float). four_taps w l row j) e ∙ four_is (tap_turn 0 j) (tap_turn 1 j) (tap_turn 2 j) (tap_turn 3 j)
 
--- four more taps
-pub rows_four_turns : (row : List Float) (starts : List ℕ) (history : List Float) (j : ℕ) {s a b c d : List Float} {k : ℕ} → k ≡ j + 4
-    → s ≡ four_rows j row starts history → a ≡ four_taps s row starts history j → b ≡ four_taps a row starts history (j + 1)
-    → c ≡ four_taps b row starts history (j + 2) → d ≡ four_taps c row starts history (j + 3) → d ≡ four_rows k row starts history
-rows_four_turns row starts history j h e one two three four =
-    let a = rows_turn row starts history j e one in
-    let b = rows_turn row starts history (j + 1) a two in
-    let c = rows_turn row starts history (j + 2) (b ∙ at_tap (omega arith)) three in
-    let d = rows_turn row starts history (j + 3) (c ∙ at_tap (omega arith)) four in
-    d ∙ at_tap (omega arith)
-  where
-    at_tap : {k m : ℕ} → k ≡ m → four_rows k row starts history ≡ four_rows m row starts history
-    at_tap h = ap (λ (i : ℕ). four_rows i row starts history) h
+  -- four more taps
+  pub rows_four_turns : (j : ℕ) {s a b c d : List Float} {k : ℕ} → k ≡ j + 4 → s ≡ four_rows w j row → a ≡ four_taps w s row j
+      → b ≡ four_taps w a row (j + 1) → c ≡ four_taps w b row (j + 2) → d ≡ four_taps w c row (j + 3) → d ≡ four_rows w k row
+  rows_four_turns j h e one two three four =
+      let a = rows_turn j e one in
+      let b = rows_turn (j + 1) a two in
+      let c = rows_turn (j + 2) (b ∙ at_tap (omega arith)) three in
+      let d = rows_turn (j + 3) (c ∙ at_tap (omega arith)) four in
+      d ∙ at_tap (omega arith)
+    where
+      at_tap : {k m : ℕ} → k ≡ m → four_rows w k row ≡ four_rows w m row
+      at_tap h = ap (λ (i : ℕ). four_rows w i row) h
 
 -- k samples on, a sample's coefficients lie k * oversample on
 tap_on : (oversample offset m k : ℕ) → offset ≤ oversample → tap oversample offset m + k * oversample ≡ tap oversample offset (m + k)
 tap_on oversample offset m k l =
     omega (arith, add-mul m 1 oversample, add-mul (m + k) 1 oversample, add-mul m k oversample, one-mul oversample)
 
--- and within the table, where sample m + k is one of the n
-pub taps_fit : (m k : ℕ) {n oversample offset size i : ℕ} → m + k < n → TapsWithin n oversample offset size → i ≡ tap oversample offset m
+-- sample m + k is one of the n, so the table holds its coefficients
+taps_fit : (m k : ℕ) {n oversample offset size i : ℕ} → m + k < n → TapsWithin n oversample offset size → i ≡ tap oversample offset m
     → i + k * oversample + 3 < size
 taps_fit m k {n} {oversample} {offset} l w h =
     omega (arith, w, h, tap_on oversample offset m k w.2, mul-le-mul_right {m = m + k + 1} {n = n} oversample (omega arith))
 
--- sample d + j of the history goes to an output whose window starts at `start`, and whose coefficients for sample d start at i
-pub output_turn : (oversample offset start d j : ℕ) (coefs history : List Float) {s r : List Float} {i : ℕ} → offset ≤ oversample → start ≤ d
-    → i ≡ tap oversample offset (d - start) → s ≡ four_sums oversample offset (d + j - start) coefs (drop start history)
-    → r ≡ spread s (at history (d + j)) coefs (i + j * oversample)
-    → r ≡ four_sums oversample offset (d + (j + 1) - start) coefs (drop start history)
-output_turn oversample offset start d j coefs history {s} {i = i} l starts h e g =
-    let here : start + (d + j - start) ≡ d + j = omega arith in
-    let sample : at history (d + j) ≡ at (drop start history) (d + j - start) =
-    ap (at history) (sym here) ∙ sym (get_or-drop start history (d + j - start) nan) in
-    let index : i + j * oversample ≡ tap oversample offset (d + j - start) =
-    ap (λ (k : ℕ). k + j * oversample) h ∙ tap_on oversample offset (d - start) j l ∙ ap (tap oversample offset) (omega arith) in
-    four_turn oversample offset (d + j - start) coefs (drop start history) e
-    (g ∙ ap (λ (x : Float). spread s x coefs (i + j * oversample)) sample ∙ ap (spread s (at (drop start history) (d + j - start)) coefs) index)
-    ∙ ap (λ (k : ℕ). four_sums oversample offset k coefs (drop start history)) (omega arith)
+-- the sample of the history j on from the last window's first, and output k, whose coefficients for that first one start at i
+module _ (o : Overlap) (k j : ℕ) {i : ℕ} (h : i ≡ tap o.oversample (slice_index o.offsets k) (slice_index o.windows.starts 3 - slice_index o.windows.starts k)) where
+  -- the table holds what the sample meets
+  pub shared_fits : TapsWithin o.windows.n o.oversample (slice_index o.offsets k) (length o.coefs.now)
+      → slice_index o.windows.starts 0 ≤ slice_index o.windows.starts k
+      → slice_index o.windows.starts k ≤ slice_index o.windows.starts 3
+      → j < slice_index o.windows.starts 0 + o.windows.n - slice_index o.windows.starts 3
+      → i + j * o.oversample + 3 < length o.coefs.now
+  shared_fits t first last l = taps_fit (slice_index o.windows.starts 3 - slice_index o.windows.starts k) j (omega arith) t h
+
+  -- the output's sums with it
+  pub output_turn : {s r : List Float} → slice_index o.offsets k ≤ o.oversample → slice_index o.windows.starts k ≤ slice_index o.windows.starts 3
+      → s ≡ output_sums o k (slice_index o.windows.starts 3 + j - slice_index o.windows.starts k)
+      → r ≡ spread s (at o.windows.history.now (slice_index o.windows.starts 3 + j)) o.coefs.now (i + j * o.oversample)
+      → r ≡ output_sums o k (slice_index o.windows.starts 3 + (j + 1) - slice_index o.windows.starts k)
+  output_turn {s} l last e g =
+      four_turn o.oversample offset (d + j - start) o.coefs.now (window_of o.windows k) e
+      (g
+      ∙ ap (λ (x : Float). spread s x o.coefs.now (i + j * o.oversample)) sample
+      ∙ ap (spread s (at (window_of o.windows k) (d + j - start)) o.coefs.now) index)
+      ∙ ap (output_sums o k) (omega arith)
+    where
+      offset : ℕ
+      offset = slice_index o.offsets k
+
+      start : ℕ
+      start = slice_index o.windows.starts k
+
+      d : ℕ
+      d = slice_index o.windows.starts 3
+
+      here : start + (d + j - start) ≡ d + j
+      here = omega arith
+
+      sample : at o.windows.history.now (d + j) ≡ at (window_of o.windows k) (d + j - start)
+      sample = ap (at o.windows.history.now) (sym here) ∙ sym (get_or-drop start o.windows.history.now (d + j - start) nan)
+
+      index : i + j * o.oversample ≡ tap o.oversample offset (d + j - start)
+      index = ap (λ (m : ℕ). m + j * o.oversample) h ∙ tap_on o.oversample offset (d - start) j l ∙ ap (tap o.oversample offset) (omega arith)

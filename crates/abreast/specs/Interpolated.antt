@@ -1,16 +1,13 @@
 -- Four interpolated outputs whose windows overlap: their sums on the way, and what they come to. Assumes nothing.
-use Rattle.std.specs.Prelude.{ℕ, ◌-◌, List, [], ◌∷◌, drop, slice_index, Float}
+use Rattle.std.specs.Prelude.{ℕ, ◌-◌, List, [], ◌∷◌, slice_index, Float}
 use Rattle.kernel.specs.Sums.{at}
 use Rattle.kernel.specs.Interpolated.{four_sums, interpolated}
 use Rattle.abreast.specs.declared.Overlap.{Overlap}
-
--- the window of output k, and what lies behind it
-abbrev pub window_of : Overlap → ℕ → List Float
-window_of o k = drop (slice_index o.windows.starts k) o.windows.history.now
+use Rattle.abreast.specs.Rows.{window_of}
 
 -- output k's sums over the first `count` samples of its window
 abbrev pub output_sums : Overlap → ℕ → ℕ → List Float
-output_sums o k count = four_sums o.oversample (slice_index o.offsets k) count o.coefs.now (window_of o k)
+output_sums o k count = four_sums o.oversample (slice_index o.offsets k) count o.coefs.now (window_of o.windows k)
 
 -- each output's sums over the samples of its window that lie among the first i of the history
 abbrev pub sums_at : Overlap → ℕ → List (List Float)
@@ -29,7 +26,7 @@ all_sums o =
 
 -- output k, at its remainder
 abbrev pub output_of : Overlap → ℕ → Float → Float
-output_of o k frac = interpolated o.oversample (slice_index o.offsets k) frac o.windows.n o.coefs.now (window_of o k)
+output_of o k frac = interpolated o.oversample (slice_index o.offsets k) frac o.windows.n o.coefs.now (window_of o.windows k)
 
 -- the four outputs
 abbrev pub four_interpolated : Overlap → List Float → List Float

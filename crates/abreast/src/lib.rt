@@ -5,7 +5,6 @@
 
 ghost use Rattle.std.specs.Prelude.{◌≡◌, ◌+◌, ◌-◌, ◌*◌, ◌≤◌, ◌<◌, length, slice_index};
 ghost use Rattle.kernel.specs.Interpolated.{tap};
-ghost use Rattle.abreast.specs.Rows.{four_rows, four_taps};
 ghost use Rattle.abreast.specs.Within.{WindowsWithin, FourTapsWithin};
 ghost use Rattle.abreast.specs.Four.{four_steps, FourReach};
 
@@ -22,10 +21,12 @@ struct Windows<'a> {
 }
 
 impl Windows<'_> {
+    ghost use Rattle.abreast.specs.Rows.{four_rows, four_taps};
+
     // One coefficient times a sample of each window, added to the four sums.
     fn four_taps(&self, sums: [f32; 4], row: &[f32], j: usize) -> [f32; 4]
         requires { (j < self.now.n) × (j < length row.now) }
-        ensures { result ≡ four_taps sums row.now self.now.starts self.now.history.now j }
+        ensures { result ≡ four_taps self.now sums row.now j }
     {
         let coef = row[j];
         [
@@ -40,7 +41,7 @@ impl Windows<'_> {
     // a time.
     fn rows_by_fours(&self, row: &[f32], quarters: usize) -> [f32; 4]
         requires { (quarters * 4 ≤ self.now.n) × (quarters * 4 ≤ length row.now) }
-        ensures { result ≡ four_rows (quarters * 4) row.now self.now.starts self.now.history.now }
+        ensures { result ≡ four_rows self.now (quarters * 4) row.now }
     {
         let mut sums: [f32; 4] = [0.0; 4];
         for turn in 0..quarters {
@@ -57,7 +58,7 @@ impl Windows<'_> {
     // One row over the windows: by fours, and then the taps that are left.
     fn four_rows(&self, row: &[f32]) -> [f32; 4]
         requires { self.now.n ≤ length row.now }
-        ensures { result ≡ four_rows self.now.n row.now self.now.starts self.now.history.now }
+        ensures { result ≡ four_rows self.now self.now.n row.now }
     {
         let quarters = self.n / 4;
         let mut sums = self.rows_by_fours(row, quarters);

@@ -4,8 +4,7 @@ use Rattle.abreast.proofs.Turns.{rows_turn}
 use Rattle.abreast.proofs.Windows.four_rows.Goals as goal
 
 pub loop-j-preserved : goal.loop-j-preserved
-loop-j-preserved c =
-    let s = c.args.self.now in rows_turn c.args.row.now s.starts s.history.now c.loop-j.j c.loop-j.invariant c.four_taps-next.ensures
+loop-j-preserved c = rows_turn c.args.self.now c.args.row.now c.loop-j.j c.loop-j.invariant c.four_taps-next.ensures
 
 pub returns : goal.returns
 returns c = let e : c.loop-j.j ≡ c.args.self.now.n = omega arith in rw (← e) c.loop-j.invariant

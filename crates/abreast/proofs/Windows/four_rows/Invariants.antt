@@ -4,4 +4,4 @@ use Rattle.abreast.specs.Rows.{four_rows}
 use Rattle.abreast.proofs.Windows.four_rows.Given as goal
 
 abbrev pub invariant-loop-j : goal.invariant-loop-j
-invariant-loop-j l = l.sums ≡ four_rows l.j l.row l.self.starts l.self.history.now
+invariant-loop-j l = l.sums ≡ four_rows l.self l.j l.row

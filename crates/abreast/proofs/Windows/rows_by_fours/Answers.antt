@@ -11,8 +11,7 @@ loop-turn-init c = refl
 
 pub loop-turn-preserved : goal.loop-turn-preserved
 loop-turn-preserved c =
-    let s = c.args.self.now in
-    rows_four_turns c.args.row.now s.starts s.history.now (c.loop-turn.turn * 4) (omega arith) c.loop-turn.invariant
+    rows_four_turns c.args.self.now c.args.row.now (c.loop-turn.turn * 4) (omega arith) c.loop-turn.invariant
     c.four_taps-one.ensures c.four_taps-two.ensures c.four_taps-three.ensures c.four_taps-four.ensures
 
 pub returns : goal.returns

@@ -4,4 +4,4 @@ use Rattle.abreast.specs.Rows.{four_rows}
 use Rattle.abreast.proofs.Windows.rows_by_fours.Given as goal
 
 abbrev pub invariant-loop-turn : goal.invariant-loop-turn
-invariant-loop-turn l = l.sums ≡ four_rows (l.turn * 4) l.row l.self.starts l.self.history.now
+invariant-loop-turn l = l.sums ≡ four_rows l.self (l.turn * 4) l.row
