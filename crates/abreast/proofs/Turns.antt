@@ -1,5 +1,5 @@
 -- What one turn of a loop adds to four outputs. Assumes nothing.
-use Rattle.std.proofs.Common.{◌≡◌, ℕ, ◌+◌, ◌-◌, ◌*◌, ◌<◌, ◌≤◌, List, length, refl, sym, ap, ◌∙◌, drop, slice_index, mul-le-mul_right, add-mul, one-mul, arith, get_or-drop}
+use Rattle.std.proofs.Common.{◌≡◌, ℕ, ◌+◌, ◌-◌, ◌*◌, ◌<◌, ◌≤◌, List, length, refl, sym, ap, ◌∙◌, slice_index, mul-le-mul_right, add-mul, one-mul, arith, get_or-drop}
 use lib.Ieee.{Float, nan}
 use Rattle.math.specs.Operators.{◌+ᶠ◌, ◌*ᶠ◌}
 use Rattle.kernel.specs.Sums.{at, direct_sum}

@@ -10,8 +10,8 @@ ghost use Rattle.abreast.specs.Four.{four_steps, FourReach};
 
 use kernel::{Phase, fold_sums, spread, step, sums_on};
 
-// Four windows of n samples, parts of one history: where in it each starts. None starts before the
-// first or after the last.
+// Four windows of n samples, parts of one history, by where in it each starts: none before the first
+// or after the last.
 #[derive(Clone, Copy)]
 struct Windows<'a> {
     history: &'a [f32],
@@ -84,8 +84,8 @@ impl Windows<'_> {
     }
 }
 
-// Four interpolated outputs, the last of whose windows starts before the first ends: each output's
-// offset in the table of coefficients.
+// Four interpolated outputs, each at its offset of the table of coefficients. The last window starts
+// before the first ends, so some sample lies in all four.
 #[derive(Clone, Copy)]
 struct Overlap<'a, 'b> {
     windows: Windows<'a>,
@@ -141,7 +141,7 @@ impl Overlap<'_, '_> {
         2 + (before + 1) * self.oversample - self.offsets[k]
     }
 
-    // Those of the samples that lie in all four windows: a sample is read once, and goes to all four
+    // The same with the samples that lie in all four windows: each is read once, and goes to all four
     // outputs.
     fn sums_within(&self, sums: [[f32; 4]; 4]) -> [[f32; 4]; 4]
         requires { sums ≡ sums_at self.now (slice_index self.now.windows.starts 3) }
@@ -168,7 +168,7 @@ impl Overlap<'_, '_> {
         all
     }
 
-    // Those of the samples after the first window's end.
+    // The same with the samples after the first window's end.
     fn sums_after(&self, sums: [[f32; 4]; 4]) -> [[f32; 4]; 4]
         requires { sums ≡ sums_at self.now (slice_index self.now.windows.starts 0 + self.now.windows.n) }
         ensures { result ≡ all_sums self.now }

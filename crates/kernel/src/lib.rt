@@ -12,6 +12,7 @@ ghost use Rattle.kernel.specs.Interpolated.{TapsWithin, spread, four_sums, folde
 ghost use Rattle.kernel.specs.Step.{step_of, Reaches};
 
 // One output of a direct row: coefficient times sample, summed from 0.0. With n = 0 it is 0.0.
+// n stands beside the slices: the contract lets both be longer.
 pub fn direct_step(window: &[f32], coefs: &[f32], n: usize) -> f32
     requires { (n ≤ length window.now) × (n ≤ length coefs.now) }
     ensures { result ≡ direct_sum n coefs.now window.now }
@@ -65,7 +66,8 @@ pub fn spread(accum: [f32; 4], curr_in: f32, coefs: &[f32], idx: usize) -> [f32;
     ]
 }
 
-// The four sums, from those of the first `from` samples on to those of the first `to`.
+// The four sums, from those of the first `from` samples on to those of the first `to`. A `Range` of
+// both is no plainer: the loop would take it apart again, as `for j in samples.start..samples.end`.
 pub fn sums_on(
     sums: [f32; 4],
     window: &[f32],
@@ -89,7 +91,8 @@ pub fn sums_on(
     accum
 }
 
-// One output at an offset with a remainder.
+// One output at an offset with a remainder. The parameters stay apart, as those of the Rust's function
+// do that docs/CLAIMS.md sets beside this one.
 pub fn interpolate_step(
     window: &[f32],
     coefs: &[f32],

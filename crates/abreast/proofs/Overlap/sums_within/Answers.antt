@@ -1,5 +1,5 @@
 -- `abreast::Overlap::sums_within` meets its contract. Assumes nothing.
-use Rattle.std.proofs.Common.{◌+◌, ◌*◌, ◌<◌, List, [], ap, length, slice_index, slice_index_or, arith}
+use Rattle.std.proofs.Common.{◌+◌, ◌*◌, ◌<◌, List, [], ap, length, slice_index_or, arith}
 use lib.Ieee.{Float}
 use Rattle.abreast.proofs.Four.{four_is}
 use Rattle.abreast.proofs.Turns.{shared_fits, output_turn}
