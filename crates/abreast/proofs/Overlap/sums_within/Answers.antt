@@ -27,26 +27,14 @@ d_fits c =
     let s = c.args.self.now in
     shared_fits s 3 c.loop-j.j c.first_tap-d.ensures s.taps.d (omega (arith, s.windows.within)) (omega (arith, s.windows.within)) c.loop-j-test.true
 
-pub overflow_add-a : goal.overflow_add-a
-overflow_add-a c = omega (arith, a_fits (goal.at-overflow_add-a c).In-loop-j)
-
 pub spread-requires : goal.spread-requires
 spread-requires c = a_fits (goal.at-spread-requires c).In-loop-j
-
-pub overflow_add-b : goal.overflow_add-b
-overflow_add-b c = omega (arith, b_fits (goal.at-overflow_add-b c).In-loop-j)
 
 pub spread-requires-in-loop-j : goal.spread-requires-in-loop-j
 spread-requires-in-loop-j c = b_fits (goal.at-spread-requires-in-loop-j c).In-loop-j
 
-pub overflow_add-c : goal.overflow_add-c
-overflow_add-c c = omega (arith, c_fits (goal.at-overflow_add-c c).In-loop-j)
-
 pub spread-requires-in-loop-j-2 : goal.spread-requires-in-loop-j-2
 spread-requires-in-loop-j-2 c = c_fits (goal.at-spread-requires-in-loop-j-2 c).In-loop-j
-
-pub overflow_add-d : goal.overflow_add-d
-overflow_add-d c = omega (arith, d_fits (goal.at-overflow_add-d c).In-loop-j)
 
 pub spread-requires-in-loop-j-3 : goal.spread-requires-in-loop-j-3
 spread-requires-in-loop-j-3 c = d_fits (goal.at-spread-requires-in-loop-j-3 c).In-loop-j
