@@ -1,43 +1,30 @@
 -- `abreast::Overlap::sums_within` meets its contract. Assumes nothing.
-use Rattle.std.proofs.Common.{◌+◌, ◌*◌, ◌<◌, List, [], ap, length, slice_index_or, arith}
+use Rattle.std.proofs.Common.{List, [], ap, slice_index_or, arith}
 use lib.Ieee.{Float}
 use Rattle.abreast.proofs.Four.{four_is}
 use Rattle.abreast.proofs.Turns.{shared_fits, output_turn}
 use Rattle.abreast.proofs.Overlap.sums_within.Goals as goal
-use Rattle.abreast.proofs.Overlap.sums_within.Goals.{In-loop-j}
 
 -- the coefficients that the sample meets for each output lie within the table
-a_fits : (c : In-loop-j) → c.first_tap-a.result + c.loop-j.j * c.args.self.now.oversample + 3 < length c.args.self.now.coefs.now
-a_fits c =
+pub spread-requires : goal.spread-requires
+spread-requires c =
     let s = c.args.self.now in
     shared_fits s 0 c.loop-j.j c.first_tap-a.ensures s.taps.a (omega (arith, s.windows.within)) (omega (arith, s.windows.within)) c.loop-j-test.true
 
-b_fits : (c : In-loop-j) → c.first_tap-b.result + c.loop-j.j * c.args.self.now.oversample + 3 < length c.args.self.now.coefs.now
-b_fits c =
+pub spread-requires-in-loop-j : goal.spread-requires-in-loop-j
+spread-requires-in-loop-j c =
     let s = c.args.self.now in
     shared_fits s 1 c.loop-j.j c.first_tap-b.ensures s.taps.b (omega (arith, s.windows.within)) (omega (arith, s.windows.within)) c.loop-j-test.true
 
-c_fits : (c : In-loop-j) → c.first_tap-c.result + c.loop-j.j * c.args.self.now.oversample + 3 < length c.args.self.now.coefs.now
-c_fits c =
+pub spread-requires-in-loop-j-2 : goal.spread-requires-in-loop-j-2
+spread-requires-in-loop-j-2 c =
     let s = c.args.self.now in
     shared_fits s 2 c.loop-j.j c.first_tap-c.ensures s.taps.c (omega (arith, s.windows.within)) (omega (arith, s.windows.within)) c.loop-j-test.true
 
-d_fits : (c : In-loop-j) → c.first_tap-d.result + c.loop-j.j * c.args.self.now.oversample + 3 < length c.args.self.now.coefs.now
-d_fits c =
+pub spread-requires-in-loop-j-3 : goal.spread-requires-in-loop-j-3
+spread-requires-in-loop-j-3 c =
     let s = c.args.self.now in
     shared_fits s 3 c.loop-j.j c.first_tap-d.ensures s.taps.d (omega (arith, s.windows.within)) (omega (arith, s.windows.within)) c.loop-j-test.true
-
-pub spread-requires : goal.spread-requires
-spread-requires c = a_fits (goal.at-spread-requires c).In-loop-j
-
-pub spread-requires-in-loop-j : goal.spread-requires-in-loop-j
-spread-requires-in-loop-j c = b_fits (goal.at-spread-requires-in-loop-j c).In-loop-j
-
-pub spread-requires-in-loop-j-2 : goal.spread-requires-in-loop-j-2
-spread-requires-in-loop-j-2 c = c_fits (goal.at-spread-requires-in-loop-j-2 c).In-loop-j
-
-pub spread-requires-in-loop-j-3 : goal.spread-requires-in-loop-j-3
-spread-requires-in-loop-j-3 c = d_fits (goal.at-spread-requires-in-loop-j-3 c).In-loop-j
 
 pub loop-j-preserved : goal.loop-j-preserved
 loop-j-preserved c =
