@@ -8,6 +8,7 @@ ghost use Rattle.kernel.specs.Interpolated.{tap};
 ghost use Rattle.abreast.specs.Within.{WindowsWithin, FourTapsWithin};
 ghost use Rattle.abreast.specs.Four.{four_steps, FourReach};
 
+use kernel::Phase::{Direct, Interpolated};
 use kernel::{Phase, fold_sums, spread, step, sums_on};
 
 // Four windows of n samples, parts of one history, by where in it each starts: none before the first
@@ -215,20 +216,15 @@ pub fn step_four(
 {
     let windows = Windows { history, starts, n };
     match phases {
-        [
-            Phase::Direct(p),
-            Phase::Direct(q),
-            Phase::Direct(r),
-            Phase::Direct(s),
-        ] if p == q && p == r && p == s => {
+        [Direct(p), Direct(q), Direct(r), Direct(s)] if p == q && p == r && p == s => {
             let from = p * n;
             windows.four_rows(&coefs[from..])
         }
         [
-            Phase::Interpolated(a, x),
-            Phase::Interpolated(b, y),
-            Phase::Interpolated(c, z),
-            Phase::Interpolated(d, u),
+            Interpolated(a, x),
+            Interpolated(b, y),
+            Interpolated(c, z),
+            Interpolated(d, u),
         ] if starts[3] < starts[0] + n => {
             let offsets = [a, b, c, d];
             let overlap = Overlap {
