@@ -10,8 +10,9 @@ use mathlib.Core.List.{List}
 use Prim.Native.Nat.{ℕ, zero, suc, ◌+◌, ◌*◌, ◌/◌, ◌%◌, ◌^◌, ◌≤◌, ◌<◌}
 use native.Mathlib.Nat.{add-mul, add_assoc, add-zero, zero-mul, mul-one, one-mul, mul_comm, mul-le-mul_left, mul-le-mul_right, mod-lt, div-add-mod'}
 use native.Mathlib.Omega.{arith}
-use lib.ListN.{length, set, drop}
+use lib.ListN.{length, set, take, drop}
 use lib.Seq.{get_or-drop}
+use Rattle.std.proofs.lemmas.List.{get_or-take}
 use lib.Ieee.{Float, nan}
 use Rattle.kernel.specs.Sums.{at, sum_to, direct_sum}
 use Rattle.kernel.specs.Step.{step_of}
@@ -44,8 +45,8 @@ module _ {w : Weave} {s t : Strand} (m : ℕ) (e : t ≡ along w.den m s) (low :
         ends = rw e (λ k h. rw (add_assoc s.column m k) (f.ends (m + k) (omega (arith, add-mul m k w.den))));
       }
 
-  pub lanes_along : {coefs size out : ℕ} → LanesFit w s coefs size out → LanesFit w t coefs size out
-  lanes_along f = record { strand = strand_along f.strand; row_low = rw e f.row_low; rows = f.rows; table = f.table }
+  pub lanes_along : {out : ℕ} → LanesFit w s out → LanesFit w t out
+  lanes_along f = record { strand = strand_along f.strand; row_low = rw e f.row_low }
 
 -- the next output of a strand: its window starts in time, so no number of it is large
 pub strand_next : {w : Weave} {s : Strand} {end out : ℕ} → StrandFits w s end out → s.from < w.count
@@ -55,13 +56,12 @@ strand_next {w} {s} f h =
     (ends, omega (arith, mul-le-mul_left {m = 1} {n = w.num} s.column f.num_some, mul-one s.column))
 
 -- the taps of the next output stand in the layout
-pub taps_fit : {w : Weave} {s : Strand} {coefs size out : ℕ} → LanesFit w s coefs size out → s.from < w.count
-    → TapsFit w.num w.stride w.n s.row s.column coefs size
-taps_fit f h = record { row_low = f.row_low; rows = f.rows; ends = (strand_next f.strand h).0; table = f.table }
+pub taps_fit : {w : Weave} {s : Strand} {out : ℕ} → LanesFit w s out → s.from < w.count → TapsFit w s
+taps_fit f h = record { row_low = f.row_low; ends = (strand_next f.strand h).0 }
 
 -- and its column is one of the layout's
-pub column_to : {w : Weave} {s : Strand} {coefs size out : ℕ} → LanesFit w s coefs size out → s.from < w.count → s.column + 32 ≤ size
-column_to {w} f h = omega (arith, (strand_next f.strand h).1, f.rows, mul_comm w.num w.stride)
+pub column_to : {w : Weave} {s : Strand} {size out : ℕ} → LanesFit w s out → s.from < w.count → w.num * w.stride + 32 ≤ size → s.column + 32 ≤ size
+column_to {w} f h rows = omega (arith, (strand_next f.strand h).1, rows, mul_comm w.num w.stride)
 
 -- ---- outputs after outputs
 
@@ -139,13 +139,14 @@ neighbour {x} {window} {num} {stride} w some row column j h =
     ∙ ap (at window) place
     ∙ sym (get_or-drop (column * num + row) window j nan)
 
--- so a lane is the sum of the direct kernel
-lane_is : {x window : List Float} {num stride reach : ℕ} → Woven x window num stride reach → 0 < num → (n : ℕ) (coefs : List Float) (row column : ℕ)
-    → column * num + row + n ≤ reach → lane_sum num stride n coefs x row column ≡ direct_sum n coefs (drop (column * num + row) window)
+-- so a lane, over the first coefficients of the table, is the sum of the direct kernel
+lane_is : {x window : List Float} {num stride reach : ℕ} → Woven x window num stride reach → 0 < num → (n : ℕ) (row coefs : List Float) (r column : ℕ)
+    → ((j : ℕ) → j < n → at row j ≡ at coefs j) → column * num + r + n ≤ reach
+    → lane_sum num stride n row x r column ≡ direct_sum n coefs (drop (column * num + r) window)
 unfolding sum_to
-lane_is w some zero coefs row column h = refl
-lane_is w some (suc n) coefs row column h =
-    rw (lane_is w some n coefs row column (omega arith), neighbour w some row column n (omega arith))
+lane_is w some zero row coefs r column same h = refl
+lane_is w some (suc n) row coefs r column same h =
+    rw (lane_is w some n row coefs r column (λ j l. same j (omega arith)) (omega arith), same n (omega arith), neighbour w some r column n (omega arith))
 
 -- where the window of output m starts
 starts : (num shift m : ℕ) → (shift / num + m) * num + shift % num ≡ shift + m * num
@@ -167,9 +168,8 @@ module _ {w : Weave} {shift from size window out : ℕ} (f : ClassFits w shift f
         ends = λ m l. omega (arith, f.within m l, starts w.num shift m);
       }
 
-  pub lanes_fit : {coefs : ℕ} → w.n ≤ coefs → LanesFit w (strand_of w.num shift from) coefs size out
-  lanes_fit h =
-      record { strand = strand_fits (w.stride * w.num) f.columns; row_low = mod-lt shift f.num_some; rows = f.rows; table = h }
+  pub lanes_fit : LanesFit w (strand_of w.num shift from) out
+  lanes_fit = record { strand = strand_fits (w.stride * w.num) f.columns; row_low = mod-lt shift f.num_some }
 
 -- one by one
 pub class_steps : (w : Weave) (phase : Phase) (oversample : ℕ) (coefs window : List Float) (shift from : ℕ) {before after : List Float}
@@ -186,7 +186,7 @@ class_steps w phase oversample coefs window shift from c =
 pub class_lanes : {w : Weave} {shift from size long out : ℕ} → ClassFits w shift from size long out
     → (phase : Phase) (row oversample : ℕ) (coefs window : List Float) {x before between after : List Float} {t : Strand}
     → phase ≡ Direct row → Woven x window w.num w.stride w.reach
-    → Begun before between w (strand_of w.num shift from) t (lane_of w (drop (row * w.n) coefs) x (strand_of w.num shift from))
+    → Begun before between w (strand_of w.num shift from) t (lane_of w (take w.n (drop (row * w.n) coefs)) x (strand_of w.num shift from))
     → Classed between after t.from w.den w.count (λ m. step_of (Direct row) w.n oversample coefs (drop ((t.column + m) * w.num + t.row) window))
     → Classed before after from w.den w.count (λ m. step_of phase w.n oversample coefs (drop (shift + m * w.num) window))
 unfolding step_of
@@ -195,10 +195,11 @@ class_lanes {w} {shift} {from} f phase row oversample coefs window {x = x} {t = 
     (ap (λ (v : Strand). v.from) p.strand) c (omega (arith, f.from_low)) later
   where
     lane : (l : ℕ) → l < p.m → from + l * w.den < w.count
-        → lane_of w (drop (row * w.n) coefs) x (strand_of w.num shift from) l ≡ step_of phase w.n oversample coefs (drop (shift + l * w.num) window)
+        → lane_of w (take w.n (drop (row * w.n) coefs)) x (strand_of w.num shift from) l ≡ step_of phase w.n oversample coefs (drop (shift + l * w.num) window)
     lane l b h =
         rw (e, ← starts w.num shift l)
-        (lane_is woven f.num_some w.n (drop (row * w.n) coefs) (shift % w.num) (shift / w.num + l) (omega (arith, f.within l h, starts w.num shift l)))
+        (lane_is woven f.num_some w.n (take w.n (drop (row * w.n) coefs)) (drop (row * w.n) coefs) (shift % w.num) (shift / w.num + l)
+        (λ j z. get_or-take w.n (drop (row * w.n) coefs) j nan z) (omega (arith, f.within l h, starts w.num shift l)))
 
     later : (l : ℕ) → t.from + l * w.den < w.count
         → step_of (Direct row) w.n oversample coefs (drop ((t.column + l) * w.num + t.row) window) ≡ step_of phase w.n oversample coefs (drop (shift + (p.m + l) * w.num) window)
