@@ -2,7 +2,7 @@
 use Prim.Native.Nat.{◌<◌}
 use native.Mathlib.Omega.{arith}
 use lib.ListN.{length}
-use Rattle.lanes.proofs.Rows.{row_starts, row_inside, row_goes_on, row_ends}
+use Rattle.lanes.proofs.Rows.{row_inside, row_goes_on, row_ends}
 use Rattle.lanes.proofs.lay_row.Goals as goal
 use Rattle.lanes.proofs.lay_row.Goals.{In-loop-t}
 

@@ -1,5 +1,5 @@
 -- `lanes::put_four` meets its contract. The invariant: the first sums stand in their entries, and the next goes to entry k. Assumes nothing.
-use mathlib.Core.Path.{◌≡◌, refl}
+use mathlib.Core.Path.{refl}
 use native.Mathlib.Nat.{add-mul, one-mul}
 use native.Mathlib.Omega.{arith}
 use Rattle.lanes.proofs.Strewing.{strewn_store, strewn_full}

@@ -1,7 +1,6 @@
 -- `lanes::Loom::sum` meets its contract. The invariant: the sums are those of the coefficients so far, and the place is that of the next tap. Assumes
 -- nothing.
 use mathlib.Core.Path.{◌≡◌, refl}
-use Prim.Native.Nat.{◌*◌, ◌≤◌, ◌<◌}
 use native.Mathlib.Omega.{arith}
 use Rattle.lanes.proofs.Spots.{spot_first, tap_to, tap_next}
 use Rattle.lanes.proofs.Adding.{sums_none, sums_more}
