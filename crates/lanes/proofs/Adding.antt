@@ -1,20 +1,17 @@
 -- One more coefficient of sums that stand side by side.
---     sums_at, sums_long, sums_same            the fours of sums, how many there are, and the same sums by another name
---     added_none, added_more, added_all        a coefficient for no four, one four more, all
---     sums_none, sums_more                     no coefficient, and one more
+--     sums_at                                  a four of the sums
+--     added_all                                one coefficient for all fours
+--     sums_silent, sums_none, sums_more        no coefficient, and one more
 -- Assumes nothing.
 use mathlib.Core.Path.{◌≡◌, refl, sym, ap, ◌∙◌}
-use mathlib.Core.Logic.{inl, inr}
 use mathlib.Core.List.{List, [], ◌∷◌}
 use Prim.Native.Nat.{ℕ, zero, suc, ◌+◌, ◌*◌, ◌≤◌, ◌<◌}
-use native.Mathlib.Nat.{add_assoc, add-zero, ne_of_lt, ne_of_gt}
+use native.Mathlib.Nat.{add_assoc, add-zero}
 use native.Mathlib.Numerals.{add-one}
 use native.Mathlib.Omega.{arith}
-use lib.ListN.{length, set, length-set, get_or, replicate}
-use lib.Seq.{get_or-set_same, get_or-set_other}
+use lib.ListN.{length, get_or, replicate}
 use lib.Ieee.{Float, of_bits, binary32}
 use Rattle.std.proofs.lemmas.List.{ext_get_or}
-use Rattle.math.proofs.Closest.{below_or_not}
 use Rattle.math.specs.Numerals.{nought}
 use Rattle.math.specs.Operators.{◌+ᶠ◌, ◌*ᶠ◌}
 use Rattle.kernel.specs.Sums.{at, sum_to}
@@ -22,15 +19,11 @@ use Rattle.lanes.specs.Inner.{spot, lane_sum, fours, sums_of, add_four, add_tap}
 
 -- ---- fours
 
-pub sums_long : (q : ℕ) (f : ℕ → Float) → length (sums_of q f) ≡ q
-sums_long zero f = refl
-sums_long (suc q) f = ap suc (sums_long q (λ l. f (4 + l)))
-
 -- equal sums have equal fours
 fours_same : {f g : ℕ → Float} → ((l : ℕ) → f l ≡ g l) → fours f ≡ fours g
 fours_same h = rw (h 0, h 1, h 2, h 3) refl
 
-pub sums_same : (q : ℕ) {f g : ℕ → Float} → ((l : ℕ) → f l ≡ g l) → sums_of q f ≡ sums_of q g
+sums_same : (q : ℕ) {f g : ℕ → Float} → ((l : ℕ) → f l ≡ g l) → sums_of q f ≡ sums_of q g
 sums_same zero h = refl
 sums_same (suc q) h = rw (fours_same h, sums_same q (λ l. h (4 + l))) refl
 
@@ -58,30 +51,12 @@ pub record Added (before after : List (List Float)) (k : Float) (x : List Float)
   pub these : (j : ℕ) → j < q → get_or after j [] ≡ add_four (get_or before j []) k x (i + 4 * j)
   pub others : (j : ℕ) → q ≤ j → get_or after j [] ≡ get_or before j []
 
-pub added_none : (s : List (List Float)) (k : Float) (x : List Float) (i : ℕ) → Added s s k x i 0
-added_none s k x i = record { long = refl; these = λ j h. absurd (omega arith); others = λ j h. refl }
-
-module _ {before after : List (List Float)} {k : Float} {x : List Float} {i q : ℕ} (a : Added before after k x i q) where
-  pub added_more : {v : List Float} → q < length after → v ≡ add_four (get_or after q []) k x (i + 4 * q) → Added before (set after q v) k x i (q + 1)
-  added_more {v} low e =
-      record {
-        long = length-set after q v ∙ a.long;
-        these = more;
-        others = λ j h. get_or-set_other after q j v [] (ne_of_gt (omega arith)) ∙ a.others j (omega arith);
-      }
-    where
-      more : (j : ℕ) → j < q + 1 → get_or (set after q v) j [] ≡ add_four (get_or before j []) k x (i + 4 * j)
-      more j h = elim (below_or_not j q) [
-        | inl b ↦ get_or-set_other after q j v [] (ne_of_lt b) ∙ a.these j b
-        | inr g ↦
-            let last : j ≡ q = omega arith in
-            rw last (get_or-set_same after q v [] low ∙ e ∙ ap (λ (s : List Float). add_four s k x (i + 4 * q)) (a.others q (omega arith)))
-      ]
-
-  pub added_all : length before ≡ q → after ≡ add_tap before k x i
-  added_all e =
-      ext_get_or [] after (add_tap before k x i) (a.long ∙ sym (taps_long before k x i))
-      (λ j h. a.these j (omega (arith, a.long)) ∙ sym (taps_at before k x i j (omega (arith, a.long))))
+-- all of them have it
+pub added_all : {before after : List (List Float)} {k : Float} {x : List Float} {i q : ℕ} → Added before after k x i q → length before ≡ q
+    → after ≡ add_tap before k x i
+added_all {before} {after} {k} {x} {i} a e =
+    ext_get_or [] after (add_tap before k x i) (a.long ∙ sym (taps_long before k x i))
+    (λ j h. a.these j (omega (arith, a.long)) ∙ sym (taps_at before k x i j (omega (arith, a.long))))
 
 -- products further on
 sums_on : (q : ℕ) (f : ℕ → Float) (k : Float) (x : List Float) (i : ℕ)
@@ -94,6 +69,12 @@ sums_tap zero f k x i = refl
 sums_tap (suc q) f k x i = rw (sums_tap q (λ l. f (4 + l)) k x (i + 4), sums_on q f k x i, add-zero i) refl
 
 -- ---- all coefficients
+
+-- sums of nothing
+pub sums_silent : (q : ℕ) → replicate q (of_bits binary32 0 ∷ of_bits binary32 0 ∷ of_bits binary32 0 ∷ of_bits binary32 0 ∷ []) ≡ sums_of q (λ l. nought)
+unfolding of_bits
+sums_silent zero = refl
+sums_silent (suc q) = ap (λ (r : List (List Float)). fours (λ l. nought) ∷ r) (sums_silent q)
 
 -- q fours of sums of j coefficients, the first at `column`
 pub record Summed (q num stride j : ℕ) (coefs x : List Float) (row column : ℕ) (s : List (List Float)) : Type 0 where
@@ -115,9 +96,3 @@ module _ {q num stride : ℕ} {coefs x : List Float} {row column : ℕ} where
             ∙ sums_tap q (λ l. lane_sum num stride j coefs x row (column + l)) (at coefs j) x i
             ∙ sums_same q (λ l. rw (e, add-one j, add_assoc (spot num stride (row + j)) column l) refl);
       }
-
--- sums of nothing
-pub sums_silent : (q : ℕ) → replicate q (of_bits binary32 0 ∷ of_bits binary32 0 ∷ of_bits binary32 0 ∷ of_bits binary32 0 ∷ []) ≡ sums_of q (λ l. nought)
-unfolding of_bits
-sums_silent zero = refl
-sums_silent (suc q) = ap (λ (r : List (List Float)). fours (λ l. nought) ∷ r) (sums_silent q)

@@ -1,7 +1,7 @@
 -- Where a tap stands in the layout, and where the next one does. Assumes nothing.
 use mathlib.Core.Path.{◌≡◌, sym, ap, ◌∙◌}
 use Prim.Native.Nat.{ℕ, ◌+◌, ◌*◌, ◌-◌, ◌/◌, ◌%◌, ◌≤◌, ◌<◌}
-use native.Mathlib.Nat.{add_assoc, add-mul, one-mul, zero-mul, mod-lt, div-add-mod', div-eq_of_lt-le, mul-le-mul_right, lt_of_mul-lt-mul_right, le_of_mul-le-mul_right}
+use native.Mathlib.Nat.{add_assoc, add-mul, one-mul, zero-mul, mod-lt, div-add-mod', div-eq_of_lt-le, mul-le-mul_right, lt_of_mul-lt-mul_right}
 use native.Mathlib.Omega.{arith}
 use Rattle.lanes.specs.Inner.{Spotted, TapsFit}
 use Rattle.lanes.specs.declared.Spot.{Spot}
@@ -43,16 +43,7 @@ spot_first num stride row column h =
     let d = divided num 0 row {t = row + 0} (omega (arith, zero-mul num)) h in
     record { row = sym d.1; i = rw (d.0, d.1) (omega arith) }
 
--- columns and rows that are worked out lie within the layout
-pub first_to : {w : Weave} {s : Strand} → TapsFit w s
-    → (s.column ≤ w.stride) × (s.row * w.stride + w.stride ≤ w.num * w.stride) × ((w.num - 1) * w.stride ≤ w.num * w.stride)
-first_to {w} {s} f = (
-  le_of_mul-le-mul_right {m = s.column} {n = w.stride} {k = w.num} (omega (arith, f.ends)) (omega (arith, f.row_low)),
-  row_end w.num w.stride s.row f.row_low,
-  mul-le-mul_right w.stride (omega arith),
-)
-
--- and so does every tap
+-- every tap stands within the layout
 pub tap_to : {w : Weave} {s : Strand} {j : ℕ} {p : Spot} → TapsFit w s → Spotted w.num w.stride s.column (s.row + j) p → j < w.n
     → (p.row < w.num) × (p.row * w.stride ≤ p.i) × (p.i < w.num * w.stride) × (w.stride ≤ w.num * w.stride)
 tap_to {w} {s} {j = j} {p = p} f h l =

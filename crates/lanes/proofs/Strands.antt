@@ -1,9 +1,9 @@
 -- Strands of outputs, and the class that they make up.
 --     strand_along, lanes_along                    a strand further on
---     strand_next, taps_fit, column_to             what its next output asks
---     filled_none, filled_some, filled_step        no output, some at once, one more
+--     strand_next, column_to                       what its next output asks
+--     filled_some, filled_step                     some outputs at once, one more
 --     filled_on, lanes_on                          outputs after outputs
---     filled_all, class_lanes, class_steps         all outputs of a class
+--     filled_all, class_lanes                      all outputs of a class
 -- Assumes nothing.
 use mathlib.Core.Path.{◌≡◌, refl, sym, ap, ◌∙◌}
 use mathlib.Core.List.{List}
@@ -20,15 +20,12 @@ use Rattle.kernel.specs.declared.Phase.{Phase}
 use Rattle.kernel.specs.declared.Phase.TheVariants.{Direct}
 use Rattle.lanes.specs.Layout.{Woven}
 use Rattle.lanes.specs.Class.{ClassFits, Classed}
-use Rattle.lanes.specs.Inner.{spot, lane_sum, TapsFit, Strewn, along, StrandFits, LanesFit, lane_of, Begun}
+use Rattle.lanes.specs.Inner.{spot, lane_sum, Strewn, along, StrandFits, LanesFit, lane_of, Begun}
 use Rattle.lanes.specs.declared.Strand.{Strand}
 use Rattle.lanes.specs.declared.Weave.{Weave}
-use Rattle.lanes.proofs.Strewing.{strewn_none, strewn_store, strewn_same, strewn_on, strewn_all, strewn_then}
+use Rattle.lanes.proofs.Strewing.{strewn_store, strewn_same, strewn_on, strewn_all, strewn_then}
 
 -- ---- further on
-
-along_none : (den : ℕ) (s : Strand) → s ≡ along den 0 s
-along_none den s = simp (zero-mul, add-zero)
 
 along_along : (den m j : ℕ) (s : Strand) {t u : Strand} → t ≡ along den m s → u ≡ along den j t → u ≡ along den (m + j) s
 along_along den m j s e h = rw (h, e) (simp (add-mul, add_assoc))
@@ -55,19 +52,11 @@ strand_next {w} {s} f h =
     let ends : s.column * w.num + s.row + w.n ≤ _ = rw add-zero at (f.ends 0 (omega (arith, zero-mul w.den))) in
     (ends, omega (arith, mul-le-mul_left {m = 1} {n = w.num} s.column f.num_some, mul-one s.column))
 
--- the taps of the next output stand in the layout
-pub taps_fit : {w : Weave} {s : Strand} {out : ℕ} → LanesFit w s out → s.from < w.count → TapsFit w s
-taps_fit f h = record { row_low = f.row_low; ends = (strand_next f.strand h).0 }
-
--- and its column is one of the layout's
+-- its column is one of the layout's
 pub column_to : {w : Weave} {s : Strand} {size out : ℕ} → LanesFit w s out → s.from < w.count → w.num * w.stride + 32 ≤ size → s.column + 32 ≤ size
 column_to {w} f h rows = omega (arith, (strand_next f.strand h).1, rows, mul_comm w.num w.stride)
 
 -- ---- outputs after outputs
-
-pub filled_none : (before : List Float) (w : Weave) (s : Strand) (f : ℕ → Float) → s.from < 2 ^ 62 → Begun before before w s s f
-filled_none before w s f h =
-    record { m = 0; strand = along_none w.den s; from_to = h; out = strewn_none s.from w.den w.count before f }
 
 -- the next m outputs at once
 pub filled_some : {before after : List Float} {w : Weave} {s t : Strand} {f : ℕ → Float} {end out : ℕ} (m : ℕ) → 0 < m → m ≤ 32
@@ -168,26 +157,12 @@ module _ {w : Weave} {shift from size window out : ℕ} (f : ClassFits w shift f
         ends = λ m l. omega (arith, f.within m l, starts w.num shift m);
       }
 
-  pub lanes_fit : LanesFit w (strand_of w.num shift from) out
-  lanes_fit = record { strand = strand_fits (w.stride * w.num) f.columns; row_low = mod-lt shift f.num_some }
-
--- one by one
-pub class_steps : (w : Weave) (phase : Phase) (oversample : ℕ) (coefs window : List Float) (shift from : ℕ) {before after : List Float}
-    → Classed before after from w.den w.count (λ m. step_of phase w.n oversample coefs (drop ((shift / w.num + m) * w.num + shift % w.num) window))
-    → Classed before after from w.den w.count (λ m. step_of phase w.n oversample coefs (drop (shift + m * w.num) window))
-class_steps w phase oversample coefs window shift from c =
-    record {
-      long = c.long;
-      these = λ m l. rw (← starts w.num shift m) (c.these m l);
-      others = c.others;
-    }
-
 -- side by side, and the rest one by one
 pub class_lanes : {w : Weave} {shift from size long out : ℕ} → ClassFits w shift from size long out
     → (phase : Phase) (row oversample : ℕ) (coefs window : List Float) {x before between after : List Float} {t : Strand}
     → phase ≡ Direct row → Woven x window w.num w.stride w.reach
     → Begun before between w (strand_of w.num shift from) t (lane_of w (take w.n (drop (row * w.n) coefs)) x (strand_of w.num shift from))
-    → Classed between after t.from w.den w.count (λ m. step_of (Direct row) w.n oversample coefs (drop ((t.column + m) * w.num + t.row) window))
+    → Classed between after t.from w.den w.count (λ m. step_of phase w.n oversample coefs (drop ((t.column + m) * w.num + t.row) window))
     → Classed before after from w.den w.count (λ m. step_of phase w.n oversample coefs (drop (shift + m * w.num) window))
 unfolding step_of
 class_lanes {w} {shift} {from} f phase row oversample coefs window {x = x} {t = t} e woven p c =
@@ -202,5 +177,5 @@ class_lanes {w} {shift} {from} f phase row oversample coefs window {x = x} {t = 
         (λ j z. get_or-take w.n (drop (row * w.n) coefs) j nan z) (omega (arith, f.within l h, starts w.num shift l)))
 
     later : (l : ℕ) → t.from + l * w.den < w.count
-        → step_of (Direct row) w.n oversample coefs (drop ((t.column + l) * w.num + t.row) window) ≡ step_of phase w.n oversample coefs (drop (shift + (p.m + l) * w.num) window)
-    later l h = rw (e, p.strand, add_assoc, starts w.num shift (p.m + l))
+        → step_of phase w.n oversample coefs (drop ((t.column + l) * w.num + t.row) window) ≡ step_of phase w.n oversample coefs (drop (shift + (p.m + l) * w.num) window)
+    later l h = rw (p.strand, add_assoc, starts w.num shift (p.m + l))

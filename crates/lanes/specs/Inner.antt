@@ -1,7 +1,12 @@
 -- What the functions within this crate promise each other. Assumes nothing.
 use Rattle.std.specs.Prelude.{◌≡◌, List, [], ◌∷◌, ℕ, zero, suc, ◌+◌, ◌*◌, ◌/◌, ◌%◌, ◌^◌, ◌≤◌, ◌<◌, length, Float}
 use Rattle.math.specs.Operators.{◌+ᶠ◌, ◌*ᶠ◌}
+use Rattle.std.specs.Coded.{le_prop}
+use Rattle.std.proofs.Props.{props}
 use Rattle.kernel.specs.Sums.{at, sum_to}
+use Rattle.kernel.specs.Step.{Reaches}
+use Rattle.kernel.specs.declared.Phase.{Phase}
+use Rattle.kernel.specs.declared.Phase.TheVariants.{Direct, Interpolated}
 use Rattle.lanes.specs.declared.Spot.{Spot}
 use Rattle.lanes.specs.declared.Strand.{Strand}
 use Rattle.lanes.specs.declared.Weave.{Weave}
@@ -100,3 +105,8 @@ pub record Begun (before after : List Float) (w : Weave) (s t : Strand) (f : ℕ
   pub strand : t ≡ along w.den m s
   pub from_to : t.from < 2 ^ 62
   pub out : Strewn before after s.from w.den w.count m f
+
+-- there is at most one proof that the table holds what the phase reads
+pub reaches_prop : (p : Phase) (n oversample size : ℕ) → IsProp (Reaches p n oversample size)
+reaches_prop (Direct row) n oversample size = le_prop
+reaches_prop (Interpolated offset f) n oversample size = Prim.hlevel props

@@ -14,7 +14,7 @@ ghost use Rattle.kernel.specs.Sums.{at};
 ghost use Rattle.kernel.specs.Step.{step_of, Reaches};
 ghost use Rattle.lanes.specs.Layout.{Woven, LayoutFits, Strided};
 ghost use Rattle.lanes.specs.Class.{ClassFits, Classed};
-ghost use Rattle.lanes.specs.Inner.{RowFits, RowLaid, Spotted, sums_of, add_four, add_tap, TapsFit, Strewn, along, StrandFits, LanesFit, lane_of, Begun};
+ghost use Rattle.lanes.specs.Inner.{RowFits, RowLaid, Spotted, sums_of, add_four, add_tap, TapsFit, Strewn, along, StrandFits, LanesFit, lane_of, Begun, reaches_prop};
 
 use kernel::Phase;
 
@@ -56,6 +56,7 @@ fn lay_row(x: &mut [f32], start: usize, window: &[f32], from: usize, num: usize,
     requires { RowFits start from num reach (length x.old) (length window.now) }
     ensures { RowLaid x.old x.new window.now start from num reach }
 {
+    // `i` is counted beside: with `enumerate` it was tried, and the proof of what a step yields didn't close.
     let mut i = start;
     for t in (from..reach).step_by(num) {
         x[i] = window[t];
@@ -80,21 +81,23 @@ struct Spot {
     i: usize,
 }
 
-// Where the next tap's samples stand: a row on, or after the last row a column on in the first.
-fn next_spot(s: Spot, num: usize, stride: usize, back: usize) -> Spot
-    requires { (s.row < num) × (s.row * stride ≤ s.i) × (back ≡ (num - 1) * stride) × (s.i + stride < 2 ^ 63) }
-    ensures { (column t : ℕ) → Spotted num stride column t s → Spotted num stride column (t + 1) result }
-{
-    let row = s.row + 1;
-    if row == num {
-        Spot {
-            row: 0,
-            i: s.i - back + 1,
-        }
-    } else {
-        Spot {
-            row,
-            i: s.i + stride,
+impl Spot {
+    // Where the next tap's samples stand: a row on, or after the last row a column on in the first.
+    fn next(self, num: usize, stride: usize, back: usize) -> Self
+        requires { (self.row < num) × (self.row * stride ≤ self.i) × (back ≡ (num - 1) * stride) × (self.i + stride < 2 ^ 63) }
+        ensures { (column t : ℕ) → Spotted num stride column t self → Spotted num stride column (t + 1) result }
+    {
+        let row = self.row + 1;
+        if row == num {
+            Spot {
+                row: 0,
+                i: self.i - back + 1,
+            }
+        } else {
+            Spot {
+                row,
+                i: self.i + stride,
+            }
         }
     }
 }
@@ -173,15 +176,17 @@ struct Strand {
     from: usize,
 }
 
-// The strand m outputs on.
-fn along(s: Strand, m: usize, den: usize) -> Strand
-    requires { (s.column + m < 2 ^ 63) × (s.from + m * den < 2 ^ 63) }
-    ensures { result ≡ along den m s }
-{
-    Strand {
-        row: s.row,
-        column: s.column + m,
-        from: s.from + m * den,
+impl Strand {
+    // The strand m outputs on.
+    fn along(self, m: usize, den: usize) -> Self
+        requires { (self.column + m < 2 ^ 63) × (self.from + m * den < 2 ^ 63) }
+        ensures { result ≡ along den m self }
+    {
+        Strand {
+            row: self.row,
+            column: self.column + m,
+            from: self.from + m * den,
+        }
     }
 }
 
@@ -212,7 +217,7 @@ impl<'a> Loom<'a> {
         };
         for k in self.coefs {
             s.add_tap(*k, self.x, at.i);
-            at = next_spot(at, num, stride, back);
+            at = at.next(num, stride, back);
         }
         s
     }
@@ -225,7 +230,7 @@ impl<'a> Loom<'a> {
         let den = self.weave.den;
         let s: Lanes<Q> = self.sum(strand);
         s.put(out, strand.from, den, self.weave.count);
-        along(strand, 4 * Q, den)
+        strand.along(4 * Q, den)
     }
 
     // By 4 * Q while more than `left` are left.
@@ -251,40 +256,45 @@ impl<'a> Loom<'a> {
     }
 }
 
-// The next output, by itself.
-fn step_at(
+// What the outputs of one phase are made of one by one: the phase, the history, the table of
+// coefficients and the numbers of the round.
+#[derive(Clone, Copy)]
+struct Steps<'a> {
     phase: Phase,
-    window: &[f32],
-    coefs: &[f32],
+    window: &'a [f32],
+    coefs: &'a [f32],
     oversample: usize,
     weave: Weave,
-    strand: Strand,
-) -> f32
-    requires { (strand.column * weave.num + strand.row + weave.n ≤ length window.now) × Reaches phase weave.n oversample (length coefs.now) }
-    ensures { result ≡ step_of phase weave.n oversample coefs.now (drop (strand.column * weave.num + strand.row) window.now) }
-{
-    let at = strand.column * weave.num + strand.row;
-    kernel::step(phase, &window[at..], coefs, weave.n, oversample)
+    ghost reaches: { Reaches phase weave.n oversample (length coefs.now) } by { reaches_prop phase weave.n oversample (length coefs.now) },
 }
 
-// All outputs of the strand, one by one.
-fn step_rest(
-    phase: Phase,
-    window: &[f32],
-    coefs: &[f32],
-    oversample: usize,
-    weave: Weave,
-    strand: Strand,
-    out: &mut [f32],
-)
-    requires { StrandFits weave strand (length window.now) (length out.old) × Reaches phase weave.n oversample (length coefs.now) }
-    ensures { Classed out.old out.new strand.from weave.den weave.count (λ (m : ℕ). step_of phase weave.n oversample coefs.now (drop ((strand.column + m) * weave.num + strand.row) window.now)) }
-{
-    let mut strand = strand;
-    while strand.from < weave.count {
-        let k = strand.from;
-        out[k] = step_at(phase, window, coefs, oversample, weave, strand);
-        strand = along(strand, 1, weave.den);
+impl<'a> Steps<'a> {
+    // The next output.
+    fn at(&self, strand: Strand) -> f32
+        requires { strand.column * self.now.weave.num + strand.row + self.now.weave.n ≤ length self.now.window.now }
+        ensures { result ≡ step_of self.now.phase self.now.weave.n self.now.oversample self.now.coefs.now (drop (strand.column * self.now.weave.num + strand.row) self.now.window.now) }
+    {
+        let at = strand.column * self.weave.num + strand.row;
+        kernel::step(
+            self.phase,
+            &self.window[at..],
+            self.coefs,
+            self.weave.n,
+            self.oversample,
+        )
+    }
+
+    // All outputs of the strand.
+    fn fill(&self, strand: Strand, out: &mut [f32])
+        requires { StrandFits self.now.weave strand (length self.now.window.now) (length out.old) }
+        ensures { Classed out.old out.new strand.from self.now.weave.den self.now.weave.count (λ (m : ℕ). step_of self.now.phase self.now.weave.n self.now.oversample self.now.coefs.now (drop ((strand.column + m) * self.now.weave.num + strand.row) self.now.window.now)) }
+    {
+        // The strand holds each output's number: a `for` over the numbers would count them once more.
+        let mut strand = strand;
+        while strand.from < self.weave.count {
+            out[strand.from] = self.at(strand);
+            strand = strand.along(1, self.weave.den);
+        }
     }
 }
 
@@ -312,6 +322,13 @@ pub fn fill_class(
         column: shift / num,
         from,
     };
+    let steps = Steps {
+        phase,
+        window,
+        coefs,
+        oversample,
+        weave,
+    };
     match phase {
         Phase::Direct(row) => {
             let start = row * weave.n;
@@ -321,11 +338,11 @@ pub fn fill_class(
                 weave,
             };
             let rest = loom.fill(strand, out);
-            step_rest(phase, window, coefs, oversample, weave, rest, out);
+            steps.fill(rest, out);
         }
         // Such outputs have no row; a caller has them only where it does not choose.
         Phase::Interpolated(_, _) => {
-            step_rest(phase, window, coefs, oversample, weave, strand, out);
+            steps.fill(strand, out);
         }
     }
 }

@@ -14,8 +14,8 @@ add_tap-requires g c =
     let loom = c.args.self.now in
     omega (arith, tap_to c.requires.1 c.loop-k.invariant.0 (omega (arith, loom.taps)), loom.rows)
 
-pub next_spot-at-requires : goal.next_spot-at-requires
-next_spot-at-requires g c =
+pub next-at-requires : goal.next-at-requires
+next-at-requires g c =
     let loom = c.args.self.now in
     let k = tap_to c.requires.1 c.loop-k.invariant.0 (omega (arith, loom.taps)) in
     (k.0, k.1, refl, omega (arith, loom.rows))
@@ -23,7 +23,7 @@ next_spot-at-requires g c =
 pub loop-k-preserved : goal.loop-k-preserved
 loop-k-preserved g c =
     let v = c.loop-k.invariant in
-    (tap_next c.args.strand.row c.loop-k.k-index (c.next_spot-at.ensures _ _ v.0), sums_more v.1 v.0.i c.add_tap.ensures)
+    (tap_next c.args.strand.row c.loop-k.k-index (c.next-at.ensures _ _ v.0), sums_more v.1 v.0.i c.add_tap.ensures)
 
 pub returns : goal.returns
 returns g c =
