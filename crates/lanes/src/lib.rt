@@ -56,7 +56,7 @@ fn lay_row(x: &mut [f32], start: usize, window: &[f32], from: usize, num: usize,
     requires { RowFits start from num reach (length x.old) (length window.now) }
     ensures { RowLaid x.old x.new window.now start from num reach }
 {
-    // `i` is counted beside: with `enumerate` it was tried, and the proof of what a step yields didn't close.
+    // Tried: with `enumerate` in place of `i`, the proof of what `step_by` yields didn't close.
     let mut i = start;
     for t in (from..reach).step_by(num) {
         x[i] = window[t];
@@ -151,8 +151,8 @@ impl<const Q: usize> Lanes<Q> {
         requires { i + 4 * Q ≤ length x.now }
         ensures { self.new.fours ≡ add_tap self.old.fours k x.now i }
     {
-        for q in 0..Q {
-            self.fours[q] = add_four(self.fours[q], k, x, i + 4 * q);
+        for (q, four) in self.fours.iter_mut().enumerate() {
+            *four = add_four(*four, k, x, i + 4 * q);
         }
     }
 
@@ -161,8 +161,8 @@ impl<const Q: usize> Lanes<Q> {
         requires { (Q ≤ 8) × (count ≤ length out.old) × (0 < by) × (by ≤ 2 ^ 32) × (from < 2 ^ 63) }
         ensures { (f : ℕ → Float) → self.now.fours ≡ sums_of Q f → Strewn out.old out.new from by count (4 * Q) f }
     {
-        for q in 0..Q {
-            put_four(out, from + 4 * q * by, by, self.fours[q], count);
+        for (q, four) in self.fours.iter().enumerate() {
+            put_four(out, from + 4 * q * by, by, *four, count);
         }
     }
 }
@@ -183,9 +183,9 @@ impl Strand {
         ensures { result ≡ along den m self }
     {
         Strand {
-            row: self.row,
             column: self.column + m,
             from: self.from + m * den,
+            ..self
         }
     }
 }
@@ -207,8 +207,7 @@ impl<'a> Loom<'a> {
         requires { (Q ≤ 8) × TapsFit self.now.weave strand }
         ensures { result.fours ≡ sums_of Q (lane_of self.now.weave self.now.coefs.now self.now.x.now strand) }
     {
-        let num = self.weave.num;
-        let stride = self.weave.stride;
+        let Weave { num, stride, .. } = self.weave;
         let back = (num - 1) * stride;
         let mut s: Lanes<Q> = Lanes::silent();
         let mut at = Spot {
@@ -238,6 +237,7 @@ impl<'a> Loom<'a> {
         requires { (0 < Q) × (Q ≤ 8) × (left ≤ 16) × LanesFit self.now.weave strand (length out.old) }
         ensures { Begun out.old out.new self.now.weave strand result (lane_of self.now.weave self.now.coefs.now self.now.x.now strand) }
     {
+        // The strand goes on by what is made: there is no index that a `for` could count.
         let mut strand = strand;
         while strand.from + left * self.weave.den < self.weave.count {
             strand = self.make::<Q>(strand, out);

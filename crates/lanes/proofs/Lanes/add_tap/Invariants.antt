@@ -3,4 +3,4 @@ use Rattle.lanes.proofs.Adding.{Added}
 use Rattle.lanes.proofs.Lanes.add_tap.Given as goal
 
 abbrev pub invariant-loop-q : goal.invariant-loop-q
-invariant-loop-q g l = Added l.initial.self.fours l.self.fours l.k l.x l.i l.q
+invariant-loop-q g l = Added l.initial.four-items l.four-items l.k l.x l.i l.q
