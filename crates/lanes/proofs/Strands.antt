@@ -1,16 +1,16 @@
 -- Strands of outputs, and the class that they make up.
 --     strand_along, lanes_along                    a strand further on
---     strand_next, column_to                       what its next output asks
---     filled_some, filled_step                     some outputs at once, one more
+--     strand_at, strand_next, column_to            what its outputs ask, and its next one
+--     filled_some                                  some outputs at once
 --     filled_on, lanes_on                          outputs after outputs
---     filled_all, class_lanes                      all outputs of a class
+--     class_lanes                                  all outputs of a class
 -- Assumes nothing.
 use mathlib.Core.Path.{◌≡◌, refl, sym, ap, ◌∙◌}
 use mathlib.Core.List.{List}
 use Prim.Native.Nat.{ℕ, zero, suc, ◌+◌, ◌*◌, ◌/◌, ◌%◌, ◌^◌, ◌≤◌, ◌<◌}
 use native.Mathlib.Nat.{add-mul, add_assoc, add-zero, zero-mul, mul-one, one-mul, mul_comm, mul-le-mul_left, mul-le-mul_right, mod-lt, div-add-mod'}
 use native.Mathlib.Omega.{arith}
-use lib.ListN.{length, set, take, drop}
+use lib.ListN.{take, drop}
 use lib.Seq.{get_or-drop}
 use Rattle.std.proofs.lemmas.List.{get_or-take}
 use lib.Ieee.{Float, nan}
@@ -23,7 +23,7 @@ use Rattle.lanes.specs.Class.{ClassFits, Classed}
 use Rattle.lanes.specs.Inner.{spot, lane_sum, Strewn, along, StrandFits, LanesFit, lane_of, Begun}
 use Rattle.lanes.specs.declared.Strand.{Strand}
 use Rattle.lanes.specs.declared.Weave.{Weave}
-use Rattle.lanes.proofs.Strewing.{strewn_store, strewn_same, strewn_on, strewn_all, strewn_then}
+use Rattle.lanes.proofs.Strewing.{strewn_same, strewn_on, strewn_then}
 
 -- ---- further on
 
@@ -44,6 +44,12 @@ module _ {w : Weave} {s t : Strand} (m : ℕ) (e : t ≡ along w.den m s) (low :
 
   pub lanes_along : {out : ℕ} → LanesFit w s out → LanesFit w t out
   lanes_along f = record { strand = strand_along f.strand; row_low = rw e f.row_low }
+
+-- output m of a strand: its window starts in time, so no number of it is large
+pub strand_at : {w : Weave} {s : Strand} {end out : ℕ} → StrandFits w s end out → (m : ℕ) → s.from + m * w.den < w.count
+    → ((s.column + m) * w.num + s.row + w.n ≤ end) × (s.column + m ≤ end)
+strand_at {w} {s} f m h =
+    (f.ends m h, omega (arith, f.ends m h, mul-le-mul_left {m = 1} {n = w.num} (s.column + m) f.num_some, mul-one (s.column + m)))
 
 -- the next output of a strand: its window starts in time, so no number of it is large
 pub strand_next : {w : Weave} {s : Strand} {end out : ℕ} → StrandFits w s end out → s.from < w.count
@@ -84,24 +90,6 @@ filled_on {w = w} {s = s} {t = t} some p q h =
           (λ l b c. h p.m l p.strand);
     }
 
--- one output more
-pub filled_step : {before after : List Float} {w : Weave} {s t u : Strand} {f : ℕ → Float} {v : Float} → 0 < w.den
-    → Begun before after w s t f → t.from < w.count → t.from < length after → u ≡ along w.den 1 t → u.from < 2 ^ 62
-    → ((m : ℕ) → t ≡ along w.den m s → v ≡ f m) → Begun before (set after t.from v) w s u f
-filled_step {w = w} {s = s} {t = t} some p below h e low g =
-    record {
-      m = p.m + 1;
-      strand = along_along w.den p.m 1 s p.strand e;
-      from_to = low;
-      out = strewn_store s.from w.den w.count p.out (ap (λ (v : Strand). v.from) p.strand) below h (g p.m p.strand) some;
-    }
-
--- the next output of a strand further on is a later one of the strand
-pub step_along : (w : Weave) (phase : Phase) (oversample : ℕ) (coefs window : List Float) (s : Strand) {t : Strand} {v : Float}
-    → v ≡ step_of phase w.n oversample coefs (drop (t.column * w.num + t.row) window)
-    → (m : ℕ) → t ≡ along w.den m s → v ≡ step_of phase w.n oversample coefs (drop ((s.column + m) * w.num + s.row) window)
-step_along w phase oversample coefs window s h m e = rw e at h
-
 -- a lane of a strand further on is a later one of the strand
 lane_along : (w : Weave) (coefs x : List Float) (s : Strand) {t : Strand} (m l : ℕ) → t ≡ along w.den m s → lane_of w coefs x t l ≡ lane_of w coefs x s (m + l)
 lane_along w coefs x s m l e = rw (e, add_assoc s.column m l)
@@ -112,10 +100,6 @@ pub lanes_on : {before between after : List Float} {w : Weave} {s t u : Strand} 
 lanes_on {w = w} {s = s} coefs x some p q = filled_on some p q (lane_along w coefs x s)
 
 -- ---- a whole class
-
-pub filled_all : {before after : List Float} {w : Weave} {s t : Strand} {f : ℕ → Float} → Begun before after w s t f
-    → w.count ≤ t.from → Classed before after s.from w.den w.count f
-filled_all {w = w} {s = s} {t = t} p h = strewn_all s.from w.den w.count p.out (omega (arith, ap (λ (v : Strand). v.from) p.strand))
 
 -- a sample of the layout is one of the window
 neighbour : {x window : List Float} {num stride reach : ℕ} → Woven x window num stride reach → 0 < num → (row column j : ℕ)

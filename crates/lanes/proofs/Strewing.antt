@@ -1,5 +1,5 @@
 -- Stores `by` entries apart.
---     strewn_one                   one store
+--     strewn_none                  no store
 --     strewn_store, strewn_on      one store more, and stores after stores
 --     strewn_full, strewn_all      nothing below count is left
 --     strewn_then                  the rest of a class
@@ -21,6 +21,9 @@ use Rattle.lanes.specs.Inner.{fours, sums_of, Strewn}
 use Rattle.lanes.proofs.Adding.{sums_at}
 
 module _ (from by count : ℕ) where
+  pub strewn_none : (before : List Float) (f : ℕ → Float) → Strewn before before from by count 0 f
+  strewn_none before f = record { long = refl; these = λ l h k. absurd (omega arith); others = λ k h. refl }
+
   strewn_one : (before : List Float) (v : Float) → from < count → from < length before → Strewn before (set before from v) from by count 1 (λ l. v)
   strewn_one before v below h =
       record {

@@ -1,13 +1,11 @@
--- `lanes::Steps::fill` meets its contract. The invariant: the outputs before the strand are made. The measure is how far the strand is from the count.
--- Assumes nothing.
-use Prim.Native.Nat.{◌+◌, ◌*◌, ◌-◌}
+-- `lanes::Steps::fill` meets its contract. The invariant: the outputs so far are made. Assumes nothing.
+use Prim.Native.Nat.{◌+◌, ◌*◌}
 use lib.ListN.{drop}
 use Rattle.kernel.specs.Step.{step_of}
-use Rattle.lanes.specs.Inner.{Begun}
+use Rattle.lanes.specs.Inner.{Strewn}
+use Rattle.lanes.proofs.Stepping.{Stepping}
 use Rattle.lanes.proofs.Steps.fill.Given as goal
 
-abbrev pub invariant-loop-strand : goal.invariant-loop-strand
-invariant-loop-strand l = Begun l.initial.out l.out l.self.weave l.initial.strand l.strand (λ m. step_of l.self.phase l.self.weave.n l.self.oversample l.self.coefs.now (drop ((l.initial.strand.column + m) * l.self.weave.num + l.initial.strand.row) l.self.window.now))
-
-abbrev pub decreases-loop-strand : goal.decreases-loop-strand
-decreases-loop-strand l = l.self.weave.count - l.strand.from
+abbrev pub invariant-loop-m : goal.invariant-loop-m
+invariant-loop-m l = Stepping l.strand.from l.den l.count l.m-iterator
+    × Strewn l.initial.out l.out l.strand.from l.den l.count l.m-iterator.count (λ m. step_of l.self.phase l.self.weave.n l.self.oversample l.self.coefs.now (drop ((l.strand.column + m) * l.self.weave.num + l.strand.row) l.self.window.now))
