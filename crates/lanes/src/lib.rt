@@ -314,10 +314,9 @@ pub fn fill_class(
     requires reaches { Reaches phase weave.n oversample (length coefs.now) }
     ensures { Classed out.old out.new from weave.den weave.count (λ (m : ℕ). step_of phase weave.n oversample coefs.now (drop (shift + m * weave.num) window.now)) }
 {
-    let num = weave.num;
     let strand = Strand {
-        row: shift % num,
-        column: shift / num,
+        row: shift % weave.num,
+        column: shift / weave.num,
         from,
     };
     let steps = Steps {
@@ -330,17 +329,12 @@ pub fn fill_class(
     match phase {
         Phase::Direct(row) => {
             let start = row * weave.n;
-            let loom = Loom {
-                x,
-                coefs: &coefs[start..start + weave.n],
-                weave,
-            };
+            let coefs = &coefs[start..start + weave.n];
+            let loom = Loom { x, coefs, weave };
             let rest = loom.fill(strand, out);
             steps.fill(rest, out);
         }
         // Such outputs have no row; a caller has them only where it does not choose.
-        Phase::Interpolated(_, _) => {
-            steps.fill(strand, out);
-        }
+        Phase::Interpolated(_, _) => steps.fill(strand, out),
     }
 }
