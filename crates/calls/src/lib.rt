@@ -35,13 +35,8 @@ fn process_chunk(
     ensures { Wrote (play_chunk (weigh_of setting coefs.now) (rate_with setting alloc) input.now (length out.old) (place_of place) mem.old) (turn_of result) mem.new out.old out.new }
 {
     let n = setting.filt_len as usize;
-    let most = alloc - n - 1;
-    let count = if input.len() < most {
-        input.len()
-    } else {
-        most
-    };
-    history::copy_in(mem, n - 1, input, count);
+    let count = input.len().min(alloc - n - 1);
+    history::copy_in(mem, n - 1, &input[..count]);
     process_native(setting, place, mem, coefs, count, out)
 }
 
@@ -103,13 +98,16 @@ fn process_magic(
         };
         return Called { turn, magic };
     }
-    let mut turn = process_native(setting, place, mem, coefs, magic, out);
+    let turn = process_native(setting, place, mem, coefs, magic, out);
     let consumed = turn.consumed.0 as usize;
     let left = magic - consumed;
     let at = setting.filt_len as usize - 1;
-    history::move_down(mem, at + consumed, at, left);
+    history::move_within(mem, at + consumed, at, left);
     // They are no samples of the input, so none counts as consumed.
-    turn.consumed.0 = 0;
+    let turn = Turn {
+        consumed: Consumed(0),
+        ..turn
+    };
     Called { turn, magic: left }
 }
 
@@ -133,8 +131,10 @@ pub fn process_call(
     }
     let place = first.turn.place;
     let done = first.turn.written.0 as usize;
-    let mut turn = process_chunks(setting, alloc, place, mem, coefs, input, &mut out[done..]);
-    let written = done as u64 + turn.written.0;
-    turn.written.0 = written;
+    let turn = process_chunks(setting, alloc, place, mem, coefs, input, &mut out[done..]);
+    let turn = Turn {
+        written: Written(done as u64 + turn.written.0),
+        ..turn
+    };
     Called { turn, magic: 0 }
 }

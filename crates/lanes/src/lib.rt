@@ -8,7 +8,7 @@
 // layout has room (`stride_for`) and whether an output lies below count (`put_four`).
 #![tactic(auto)]
 
-ghost use Rattle.std.specs.Prelude.{◌≡◌, ℕ, ◌+◌, ◌*◌, ◌-◌, ◌^◌, ◌≤◌, ◌<◌, length, drop, Float};
+ghost use Rattle.std.specs.Prelude.{◌≡◌, ℕ, ◌+◌, ◌*◌, ◌-◌, ◌^◌, ◌≤◌, ◌<◌, length, drop, IfSome, Float};
 ghost use Rattle.math.specs.Numerals.{nought};
 ghost use Rattle.kernel.specs.Sums.{at};
 ghost use Rattle.kernel.specs.Step.{step_of, Reaches};
@@ -33,22 +33,19 @@ pub struct Weave {
     pub count: usize,
 }
 
-// The stride of a layout of `reach` samples, or 0 where they have no room.
-pub fn stride_for(num: usize, reach: usize) -> usize
-    ensures { Strided num reach result }
+// The stride of a layout of `reach` samples, or None where they have no room.
+pub fn stride_for(num: usize, reach: usize) -> Option<usize>
+    ensures { IfSome result (Strided num reach) }
 {
-    if num == 0 {
-        return 0;
-    }
-    // So that the stride is small.
-    if ROOM < reach {
-        return 0;
+    // A reach within the room keeps the stride small.
+    if num == 0 || ROOM < reach {
+        return None;
     }
     let stride = reach / num + 1;
     if (ROOM - 32) / num < stride {
-        return 0;
+        return None;
     }
-    stride
+    Some(stride)
 }
 
 // A row: every num-th sample from `from` on, below reach, to the entries from `start` on.

@@ -1,13 +1,14 @@
 -- The numbers of a run of outputs: how many stand before the samples' end, and that they are small enough to reckon with.
---     count_full, count_most       a round makes as many as the room takes, or as many as stand before the end
+--     count_is                     a round makes as many as the room takes, or as many as stand before the end
 --     span_to, span_before         how many den-ths a run leads on, and its last output
 -- Assumes nothing.
 use mathlib.Core.Path.{◌≡◌, sym, ap, ◌∙◌}
-use Prim.Native.Nat.{ℕ, zero, suc, ◌+◌, ◌-◌, ◌*◌, ◌/◌, ◌^◌, ◌≤◌, ◌<◌}
+use mathlib.Core.Logic.{inl, inr}
+use Prim.Native.Nat.{ℕ, zero, suc, ◌+◌, ◌-◌, ◌*◌, ◌/◌, ◌^◌, ◌≤◌, ◌<◌, min}
 use native.Mathlib.Nat.{mul-add, mul-le-mul, mul-le-mul_left, mul-le-mul_right, lt_of_mul-lt-mul_left, div-add-mod', div-le_self, mod-lt}
 use native.Mathlib.Omega.{arith}
 use Rattle.timeline.specs.Numbers.{Rate, Place, ahead, made}
-use Rattle.timeline.proofs.Places.{reach, ahead_reach, ahead_phase, made_is}
+use Rattle.timeline.proofs.Places.{below_or_not, reach, ahead_reach, ahead_phase, made_is}
 use Rattle.rates.specs.Rated.{rate_with}
 use Rattle.rates.specs.declared.Setting.{Setting}
 use Rattle.rounds.specs.Rounds.{Playable}
@@ -59,12 +60,18 @@ module _ (r : Rate) (some : 0 < r.num) (d : 0 < r.den) (i : ℕ) (p : Place) (ph
       lt_of_mul-lt-mul_left r.den (omega (arith, ending, ahead_reach r k p, ahead_phase r d k p phase)) in
       omega arith
 
-  pub count_full : (room : ℕ) → room < most r i p → room ≡ made r i room p
+  count_full : (room : ℕ) → room < most r i p → room ≡ made r i room p
   count_full room h =
       sym (made_is r i room room p (omega arith) (λ j l. stand_before j (omega arith)) (λ l. omega arith))
 
-  pub count_most : (room : ℕ) → most r i p ≤ room → most r i p ≡ made r i room p
+  count_most : (room : ℕ) → most r i p ≤ room → most r i p ≡ made r i room p
   count_most room h = sym (made_is r i room (most r i p) p h stand_before (λ l. stand_past (most r i p) (omega arith)))
+
+  pub count_is : (room : ℕ) → min room (most r i p) ≡ made r i room p
+  count_is room = elim (below_or_not room (most r i p)) [
+    | inl h ↦ let e : min room (most r i p) ≡ room = omega arith in e ∙ count_full room h
+    | inr h ↦ let e : min room (most r i p) ≡ most r i p = omega arith in e ∙ count_most room h
+  ]
 
 -- den-ths of no more than 2^32 samples
 pub samples_to : {s : Setting} → Playable s → (x : ℕ) → x ≤ 2 ^ 32 → s.den * x ≤ 192000 * 2 ^ 32

@@ -1,7 +1,7 @@
 -- A run of outputs: before the first, over one, after the last; and the round that it leads to.
 --     any_ahead, any_outputs, any_made     how much of the history is used does not matter to them
 --     starts, goes_on, ends                the run
---     three_on, four_on                    over outputs that were made side by side
+--     four_values, side_by_side            over outputs that were made side by side
 --     numbered, run_fits                   what a run asks, from what a round asks
 --     here, onward, later                  where its outputs stand
 --     round_wrote                          the outputs are made, and the history moves down
@@ -15,7 +15,9 @@ use native.Mathlib.Numerals.{add-one}
 use native.Mathlib.Omega.{arith}
 use lib.Dec.{ltb}
 use lib.ListN.{length, drop, set, get_or}
-use lib.Seq.{paste, paste-zero}
+use lib.Seq.{paste, paste-zero, paste-suc}
+use borrow.Rule.Slice.PartMut.{put_mid}
+use Rattle.std.proofs.lemmas.Slice.{put_mid-paste}
 use lib.Ieee.{Float, nan}
 use Rattle.history.proofs.Pasted as pasted
 use Rattle.history.proofs.Pasted.{Pasted}
@@ -107,6 +109,21 @@ onward {s} {p} {count} {mem} {coefs} i k f e h =
 pub later : (r : Rate) (p : Place) {q : Place} → q ≡ next r p → p.position ≤ q.position
 later r p e = rw e (omega arith)
 
+-- the first k of four outputs are those of k places, each from the one before
+pub four_values : (s : Setting) (coefs mem : List Float) (k : ℕ) (a b c d : Place) {y : List Float} → k ≤ 4 → y ≡ four_outputs s coefs mem a b c d
+    → b ≡ next (rate_with s 0) a → c ≡ next (rate_with s 0) b → (3 < k → d ≡ next (rate_with s 0) c)
+    → (j : ℕ) → j < k → get_or y j nan ≡ output (weigh_of s coefs) (rate_with s 0) mem (ahead (rate_with s 0) j a)
+four_values s coefs mem k a b c d f e eb ec ed zero h = ap (λ (z : List Float). get_or z 0 nan) e
+four_values s coefs mem k a b c d f e eb ec ed (suc zero) h =
+    ap (λ (z : List Float). get_or z 1 nan) e ∙ ap (output (weigh_of s coefs) (rate_with s 0) mem) eb
+four_values s coefs mem k a b c d f e eb ec ed (suc (suc zero)) h =
+    let r = rate_with s 0 in
+    ap (λ (z : List Float). get_or z 2 nan) e ∙ ap (output (weigh_of s coefs) r mem) (ec ∙ ap (next r) eb)
+four_values s coefs mem k a b c d f e eb ec ed (suc (suc (suc zero))) h =
+    let r = rate_with s 0 in
+    ap (λ (z : List Float). get_or z 3 nan) e ∙ ap (output (weigh_of s coefs) r mem) (ed (omega arith) ∙ ap (next r) (ec ∙ ap (next r) eb))
+four_values s coefs mem k a b c d f e eb ec ed (suc (suc (suc (suc j)))) h = absurd (omega arith)
+
 module _ (s : Setting) (coefs mem : List Float) (p : Place) (count : ℕ) (before : List Float) where
   pub starts : Ran s coefs mem p count 0 p before before
   starts = record { within = omega arith; place = refl; same = refl; out = paste-zero before 0 (outputs (weigh_of s coefs) (rate_with s 0) mem count p) }
@@ -125,27 +142,25 @@ module _ (s : Setting) (coefs mem : List Float) (p : Place) (count : ℕ) (befor
   pub recount : {k m : ℕ} {q : Place} {after : List Float} → k ≡ m → Ran s coefs mem p count k q before after → Ran s coefs mem p count m q before after
   recount {q = q} {after = after} e f = subst (λ (j : ℕ). Ran s coefs mem p count j q before after) e f
 
-  -- three outputs of four that were made side by side; the fourth may be anything
-  pub three_on : (i : ℕ) (d : Place) {a b c e : Place} {after y : List Float} → Ran s coefs mem p count i a before after → i + 3 ≤ count → count ≤ length before
-      → y ≡ four_outputs s coefs mem a b c d → b ≡ next (rate_with s 0) a → c ≡ next (rate_with s 0) b → e ≡ next (rate_with s 0) c
-      → Ran s coefs mem p count (i + 3) e before (set (set (set after i (get_or y 0 nan)) (i + 1) (get_or y 1 nan)) (i + 2) (get_or y 2 nan))
-  three_on i d f h l g eb ec ee =
-      let one = goes_on i f (omega arith) l (ap (λ (z : List Float). get_or z 0 nan) g) eb in
-      let two = goes_on (i + 1) one (omega arith) l (ap (λ (z : List Float). get_or z 1 nan) g) ec in
-      let second : i + 1 + 1 ≡ i + 2 = omega arith in
-      let three = goes_on (i + 2) (recount second two) (omega arith) l (ap (λ (z : List Float). get_or z 2 nan) g) ee in
-      let third : i + 2 + 1 ≡ i + 3 = omega arith in
-      recount third three
+  -- k outputs more
+  laid : (i k : ℕ) (part : List Float) {q q' : Place} {after : List Float} → Ran s coefs mem p count i q before after → i + k ≤ count → count ≤ length before → k ≤ length part
+      → ((j : ℕ) → j < k → get_or part j nan ≡ output (weigh_of s coefs) (rate_with s 0) mem (ahead (rate_with s 0) j q)) → q' ≡ ahead (rate_with s 0) k q
+      → Ran s coefs mem p count (i + k) q' before (paste after i part k)
+  laid i zero part {after = after} f h l m v e =
+      let none : i ≡ i + 0 = omega arith in
+      rw (e, ← paste-zero after i part) (recount none f)
+  laid i (suc k) part {q = q} {after = after} f h l m v e =
+      let so_far = laid i k part f (omega arith) l (omega arith) (λ j b. v j (omega arith)) refl in
+      let one = goes_on (i + k) so_far (omega arith) l (v k (omega arith)) (e ∙ ahead_last (rate_with s 0) k q) in
+      let on : i + k + 1 ≡ i + suc k = omega arith in
+      rw (← paste-suc after i part k nan (omega (arith, f.same)) (omega arith)) (recount on one)
 
-  -- all four
-  pub four_on : (i : ℕ) {a b c d e : Place} {after y : List Float} → Ran s coefs mem p count i a before after → i + 4 ≤ count → count ≤ length before
-      → y ≡ four_outputs s coefs mem a b c d → b ≡ next (rate_with s 0) a → c ≡ next (rate_with s 0) b → d ≡ next (rate_with s 0) c → e ≡ next (rate_with s 0) d
-      → Ran s coefs mem p count (i + 4) e before (set (set (set (set after i (get_or y 0 nan)) (i + 1) (get_or y 1 nan)) (i + 2) (get_or y 2 nan)) (i + 3) (get_or y 3 nan))
-  four_on i {d = d} f h l g eb ec ed ee =
-      let three = three_on i d f (omega arith) l g eb ec ed in
-      let four = goes_on (i + 3) three (omega arith) l (ap (λ (z : List Float). get_or z 3 nan) g) ee in
-      let fourth : i + 3 + 1 ≡ i + 4 = omega arith in
-      recount fourth four
+  -- as they stand in the output once the part that was lent for them is back
+  pub side_by_side : (i k : ℕ) (part : List Float) {q q' : Place} {after : List Float} → Ran s coefs mem p count i q before after → i + k ≤ count → count ≤ length before → k ≡ length part
+      → ((j : ℕ) → j < k → get_or part j nan ≡ output (weigh_of s coefs) (rate_with s 0) mem (ahead (rate_with s 0) j q)) → q' ≡ ahead (rate_with s 0) k q
+      → Ran s coefs mem p count (i + k) q' before (put_mid i (i + k - i) after part)
+  side_by_side i k part {after = after} f h l m v e =
+      rw (put_mid-paste i (i + k - i) after part part k refl (omega arith) m) (laid i k part f h l (omega arith) v e)
 
   pub ends : (i : ℕ) {q : Place} {after : List Float} → Ran s coefs mem p count count q before after → count ≡ made (rate_with s 0) i (length before) p
       → (alloc : ℕ) → Filled (weigh_of s coefs) (rate_with s alloc) i p mem count q before after

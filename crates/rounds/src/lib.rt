@@ -46,10 +46,8 @@ fn phase_at(setting: Setting, phase: usize) -> Phase
     requires { Playable setting × (phase < setting.den) }
     ensures { result ≡ phase_of setting phase }
 {
-    let kernel = setting.kernel;
-    match kernel {
-        Kernel::Unset => Phase::Direct(phase),
-        Kernel::Direct => Phase::Direct(phase),
+    match setting.kernel {
+        Kernel::Unset | Kernel::Direct => Phase::Direct(phase),
         Kernel::Interpolated => {
             let den = setting.den as usize;
             let product = phase * setting.oversample as usize;
@@ -103,12 +101,8 @@ pub fn process_native(
 {
     let made = make_outputs(setting, place, &mem[..], coefs, in_len, out);
     let end = made.place;
-    let consumed = if end.position < in_len {
-        end.position
-    } else {
-        in_len
-    };
-    history::move_down(mem, consumed, 0, setting.filt_len as usize - 1);
+    let consumed = end.position.min(in_len);
+    history::move_within(mem, consumed, 0, setting.filt_len as usize - 1);
     let place = Place {
         position: end.position - consumed,
         phase: end.phase,

@@ -1,6 +1,6 @@
 // A run of outputs: how many a round makes, and the ways in which they are made. Each way gives the
 // outputs that `output_at` gives one by one.
-ghost use Rattle.std.specs.Prelude.{◌≡◌, List, ℕ, ◌+◌, ◌-◌, ◌^◌, ◌<◌, ◌≤◌, length, drop, Float};
+ghost use Rattle.std.specs.Prelude.{◌≡◌, List, ℕ, ◌+◌, ◌-◌, ◌^◌, ◌<◌, ◌≤◌, length, drop, IfSome, Float};
 ghost use Rattle.timeline.specs.Numbers as numbers;
 ghost use Rattle.timeline.specs.Numbers.{made, ahead};
 ghost use Rattle.rates.specs.Rated.{rate_with};
@@ -33,7 +33,7 @@ fn outputs_ahead(setting: Setting, place: Place, in_len: usize, room: usize) -> 
     let den = setting.den as usize;
     let before_end = den * (in_len - place.position) - place.phase;
     let most = (before_end - 1) / setting.num as usize + 1;
-    if room < most { room } else { most }
+    room.min(most)
 }
 
 // The place of the output that is `count` on.
@@ -95,20 +95,19 @@ fn make_fours(
     ensures { Ran setting coefs.now mem.now (place_of start) count result.written (place_of result.place) out.old out.new }
 {
     let mut place = start;
-    let mut i = 0;
-    while i + 4 <= count {
+    for quad in 0..count / 4 {
         let b = advance(setting, place);
         let c = advance(setting, b);
         let d = advance(setting, c);
         let y = output_four(setting, place, b, c, d, mem, coefs);
-        out[i] = y[0];
-        out[i + 1] = y[1];
-        out[i + 2] = y[2];
-        out[i + 3] = y[3];
+        let i = 4 * quad;
+        out[i..i + 4].copy_from_slice(&y);
         place = advance(setting, d);
-        i += 4;
     }
-    Made { place, written: i }
+    Made {
+        place,
+        written: count / 4 * 4,
+    }
 }
 
 // Three outputs as four: the fourth is the third once more, and is dropped. The longest filter makes
@@ -129,9 +128,7 @@ fn make_three(
     let c = advance(setting, b);
     let y = output_four(setting, a, b, c, c, mem, coefs);
     let i = before.written;
-    out[i] = y[0];
-    out[i + 1] = y[1];
-    out[i + 2] = y[2];
+    out[i..i + 3].copy_from_slice(&y[..3]);
     advance(setting, c)
 }
 
@@ -148,11 +145,9 @@ fn make_rest(
     ensures { (p : numbers.Place) (was : List Float) → Ran setting coefs.now mem.now p count before.written (place_of before.place) was out.old → Ran setting coefs.now mem.now p count count (place_of result) was out.new }
 {
     let mut place = before.place;
-    let mut i = before.written;
-    while i < count {
+    for i in before.written..count {
         out[i] = output_at(setting, place, mem, coefs);
         place = advance(setting, place);
-        i += 1;
     }
     place
 }
@@ -194,8 +189,7 @@ fn fill_classes(
 {
     let at = start.position;
     let mut place = start;
-    let mut from = 0;
-    while from < weave.den && from < weave.count {
+    for from in 0..weave.den.min(weave.count) {
         lanes::fill_class(
             phase_at(setting, place.phase),
             x,
@@ -208,7 +202,6 @@ fn fill_classes(
             out,
         );
         place = advance(setting, place);
-        from += 1;
     }
 }
 
@@ -231,36 +224,32 @@ fn make_classes(
     fill_classes(setting, place, &x, mem, coefs, weave, out);
 }
 
-// The numbers of the lanes for the next count outputs; the stride is 0 where lanes do not serve: for
-// an interpolated kernel, for a round whose samples have no room in a layout, and for fewer than four
+// The numbers of the lanes for the next count outputs, or None where lanes do not serve: for an
+// interpolated kernel, for a round whose samples have no room in a layout, and for fewer than four
 // outputs to a class, where laying out costs more than it saves.
-fn weave_for(setting: Setting, place: Place, count: usize) -> Weave
+fn weave_for(setting: Setting, place: Place, count: usize) -> Option<Weave>
     requires { Numbered setting (place_of place) count }
-    ensures { (result.count ≡ count) × (0 < result.stride → WeaveFits setting (place_of place) result) }
+    ensures { IfSome result (λ weave. (weave.count ≡ count) × WeaveFits setting (place_of place) weave) }
 {
     let num = setting.num as usize;
     let den = setting.den as usize;
     let n = setting.filt_len as usize;
-    let mut weave = Weave {
-        num,
-        den,
-        n,
-        stride: 0,
-        reach: 0,
-        count,
-    };
     if count < 4 * den {
-        return weave;
+        return None;
     }
-    let kernel = setting.kernel;
-    match kernel {
-        Kernel::Unset => weave,
-        Kernel::Interpolated => weave,
+    match setting.kernel {
+        Kernel::Unset | Kernel::Interpolated => None,
         Kernel::Direct => {
             let reach = (place.phase + (count - 1) * num) / den + n;
-            weave.reach = reach;
-            weave.stride = lanes::stride_for(num, reach);
-            weave
+            let stride = lanes::stride_for(num, reach)?;
+            Some(Weave {
+                num,
+                den,
+                n,
+                stride,
+                reach,
+                count,
+            })
         }
     }
 }
@@ -279,15 +268,13 @@ pub fn make_outputs(
     ensures { (alloc : ℕ) → Filled (weigh_of setting coefs.now) (rate_with setting alloc) in_len (place_of place) mem.now result.written (place_of result.place) out.old out.new }
 {
     let count = outputs_ahead(setting, place, in_len, out.len());
-    let weave = weave_for(setting, place, count);
-    if weave.stride > 0 {
-        make_classes(setting, place, mem, coefs, weave, out);
-        return Made {
-            place: place_after(setting, place, count),
-            written: count,
-        };
-    }
-    let place = make_abreast(setting, place, mem, coefs, count, out);
+    let place = match weave_for(setting, place, count) {
+        Some(weave) => {
+            make_classes(setting, place, mem, coefs, weave, out);
+            place_after(setting, place, count)
+        }
+        None => make_abreast(setting, place, mem, coefs, count, out),
+    };
     Made {
         place,
         written: count,

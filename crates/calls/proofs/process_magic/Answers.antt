@@ -31,13 +31,14 @@ pub overflow_add-at : goal.overflow_add-at
 overflow_add-at c =
     omega (arith, within (goal.at-overflow_add-at c).After-process_native-turn, c.requires.samples_to, c.requires.playable.n_to)
 
-pub move_down-requires : goal.move_down-requires
-move_down-requires c =
-    (omega arith, omega (arith, within (goal.at-move_down-requires c).After-process_native-turn, c.process_native-turn.auto, c.requires.samples))
+pub move_within-requires : goal.move_within-requires
+move_within-requires c =
+    let w = within (goal.at-move_within-requires c).After-process_native-turn in
+    (omega (arith, w, c.process_native-turn.auto, c.requires.samples), omega (arith, w, c.process_native-turn.auto, c.requires.samples))
 
 pub returns : goal.returns
 returns c alloc =
     let a = c.args in
     some_wrote (weigh_of a.setting a.coefs.now) (rate_with a.setting alloc) a.magic
     (length a.out.now) (place_of a.place) a.mem.now
-    (omega (arith, c.if-magic-eq0.false)) (c.process_native-turn.ensures alloc) c.move_down.ensures
+    (omega (arith, c.if-magic-eq0.false)) (c.process_native-turn.ensures alloc) c.move_within.ensures

@@ -4,4 +4,4 @@ use Rattle.reshape.proofs.raise.Goals as goal
 
 pub returns : goal.returns
 unfolding raised
-returns c = rw (c.fill_zero.ensures, c.move_up.ensures)
+returns c = rw (c.fill_zero.ensures, c.move_within.ensures)

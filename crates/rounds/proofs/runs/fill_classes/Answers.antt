@@ -1,12 +1,12 @@
--- `rounds::runs::fill_classes` meets its contract. The invariant: the classes below `from` are made, and the next stands at the place. The measure
--- is how many of the den classes are left. Assumes nothing.
-use mathlib.Core.Path.{refl, sym}
-use mathlib.Core.Logic.{inl, inr}
-use Prim.Native.Nat.{◌+◌, ◌≤◌, ◌<◌}
+-- `rounds::runs::fill_classes` meets its contract. The invariant: the classes below `from` are made, and the next stands at the place.
+-- Assumes nothing.
+use mathlib.Core.Path.{◌≡◌, refl, sym}
+use mathlib.Core.Logic.{◌⊎◌, inl, inr}
+use Prim.Native.Nat.{ℕ, ◌+◌, ◌≤◌, ◌<◌, min}
 use native.Mathlib.Omega.{arith}
-use borrow.Author.Tests.{ltb-true, ltb-false}
 use lib.ListN.{length, length-drop}
 use Rattle.kernel.proofs.Parts.{rest, reaches_at}
+use Rattle.timeline.proofs.Places.{below_or_not}
 use Rattle.rates.specs.Rated.{rate_with}
 use Rattle.rounds.specs.Rounds.{place_of}
 use Rattle.rounds.proofs.Phases.{reaches}
@@ -27,7 +27,7 @@ loop-from-init c =
 pub phase_at-requires : goal.phase_at-requires
 phase_at-requires c =
     let f = c.requires.run_fits.0 in
-    (f.playable, (here c.loop-from.from f c.loop-from.invariant.0 (omega (arith, ltb-true))).phase)
+    (f.playable, (here c.loop-from.from f c.loop-from.invariant.0 (omega (arith, c.loop-from-test.true, c.min-from-end.ensures))).phase)
 
 pub offset_bounds-mem-at : goal.offset_bounds-mem-at
 offset_bounds-mem-at c = omega (arith, first (goal.at-offset_bounds-mem-at c).Start)
@@ -40,31 +40,25 @@ slice_bounds-fill_class-start c = omega (arith, first (goal.at-slice_bounds-fill
 
 pub overflow_sub-place : goal.overflow_sub-place
 overflow_sub-place c =
-    after_first c.args.setting (place_of c.args.start) c.args.weave c.loop-from.from c.requires.run_fits.0 c.requires.run_fits.2 (omega (arith, ltb-true)) c.loop-from.invariant.0
+    after_first c.args.setting (place_of c.args.start) c.args.weave c.loop-from.from c.requires.run_fits.0 c.requires.run_fits.2 (omega (arith, c.loop-from-test.true, c.min-from-end.ensures)) c.loop-from.invariant.0
 
 pub fill_class-requires : goal.fill_class-requires
 fill_class-requires c =
     let x = c.args in
     let f = c.requires.run_fits.0 in
     let v = c.loop-from.invariant in
-    let low : c.loop-from.from < x.weave.count = omega (arith, ltb-true) in
+    let low : c.loop-from.from < x.weave.count = omega (arith, c.loop-from-test.true, c.min-from-end.ensures) in
     let room : x.weave.count ≤ length c.loop-from.out = omega (arith, v.1.same, c.requires.run_fits.1) in
     let fits = class_fits x.setting (place_of x.start) x.weave c.loop-from.from f c.requires.run_fits.2 low v.0
-    (omega (arith, c.loop-from-test.true)) c.requires.run_fits.3 room in
+    (omega (arith, c.loop-from-test.true, c.min-from-end.ensures)) c.requires.run_fits.3 room in
     let within = reaches_at _ _ _ (sym c.phase_at.ensures) (reaches f.playable (here c.loop-from.from f v.0 low).phase f.table) in
     record { woven = rw rest c.requires.woven; class_fits = rw (rest, length-drop) fits; reaches = rw c.requires.run_fits.2.n within }
 
 pub advance-place-requires : goal.advance-place-requires
 advance-place-requires c =
     let f = c.requires.run_fits.0 in
-    let a = here c.loop-from.from f c.loop-from.invariant.0 (omega (arith, ltb-true)) in
+    let a = here c.loop-from.from f c.loop-from.invariant.0 (omega (arith, c.loop-from-test.true, c.min-from-end.ensures)) in
     (f.playable, a.phase, omega (arith, a.position))
-
-pub overflow_add-from : goal.overflow_add-from
-overflow_add-from c = omega (arith, ltb-true)
-
-pub loop-from-smaller : goal.loop-from-smaller
-loop-from-smaller c = omega (arith, ltb-true)
 
 pub loop-from-preserved : goal.loop-from-preserved
 loop-from-preserved c =
@@ -72,28 +66,21 @@ loop-from-preserved c =
     let f = c.requires.run_fits.0 in
     let g = c.requires.run_fits.2 in
     let v = c.loop-from.invariant in
-    let low : c.loop-from.from < x.weave.count = c.if-from-weave.true in
-    let class : c.loop-from.from < x.weave.den = omega (arith, c.loop-from-test.true) in
+    let low : c.loop-from.from < x.weave.count = omega (arith, c.loop-from-test.true, c.min-from-end.ensures) in
+    let class : c.loop-from.from < x.weave.den = omega (arith, c.loop-from-test.true, c.min-from-end.ensures) in
     let values = class_value x.setting (place_of x.start) x.weave c.loop-from.from f g low v.0 x.coefs.now x.mem.now c.phase_at.ensures in (
       one_on (rate_with x.setting 0) c.loop-from.from (place_of x.start) v.0 c.advance-place.ensures,
       goes_on x.setting x.coefs.now x.mem.now (place_of x.start) x.weave.count _ x.weave.den c.loop-from.from v.1
           class (simp rest at c.fill_class.ensures) (λ m l. values m),
     )
 
-pub shape_of-out-else-from-weave : goal.shape_of-out-else-from-weave
-shape_of-out-else-from-weave c = c.loop-from.invariant.1.same
+-- the last class is made, or the last output
+all_made : {den count from end : ℕ} → end ≡ min den count → end ≤ from → (den ≤ from) ⊎ (count ≤ from)
+all_made {den} {count} e h = elim (below_or_not den count) [ inl l ↦ inl (omega (arith, e)) | inr l ↦ inr (omega (arith, e)) ]
 
-pub returns-else-from-weave : goal.returns-else-from-weave
-returns-else-from-weave c =
+pub returns : goal.returns
+returns c =
     let x = c.args in
     ends x.setting x.coefs.now x.mem.now (place_of x.start) x.weave.count _ x.weave.den c.loop-from.from c.loop-from.invariant.1
-    (omega (arith, c.requires.run_fits.2.den, c.requires.run_fits.0.playable.terms.den_from)) (inr (omega (arith, ltb-false))) c.requires.run_fits.1
-
-pub shape_of-out-after-loop-from : goal.shape_of-out-after-loop-from
-shape_of-out-after-loop-from c = c.loop-from.invariant.1.same
-
-pub returns-after-loop-from : goal.returns-after-loop-from
-returns-after-loop-from c =
-    let x = c.args in
-    ends x.setting x.coefs.now x.mem.now (place_of x.start) x.weave.count _ x.weave.den c.loop-from.from c.loop-from.invariant.1
-    (omega (arith, c.requires.run_fits.2.den, c.requires.run_fits.0.playable.terms.den_from)) (inl (omega (arith, ltb-false))) c.requires.run_fits.1
+    (omega (arith, c.requires.run_fits.2.den, c.requires.run_fits.0.playable.terms.den_from))
+    (all_made c.min-from-end.ensures (omega (arith, c.loop-from-test.false))) c.requires.run_fits.1

@@ -1,7 +1,6 @@
--- `rounds::runs::fill_classes` meets its contract. The invariant: the classes below `from` are made, and the next stands at the place. The measure
--- is how many of the den classes are left. Assumes nothing.
+-- `rounds::runs::fill_classes` meets its contract. The invariant: the classes below `from` are made, and the next stands at the place.
+-- Assumes nothing.
 use mathlib.Core.Path.{◌≡◌}
-use Prim.Native.Nat.{◌-◌}
 use Rattle.timeline.specs.Numbers.{ahead}
 use Rattle.rates.specs.Rated.{rate_with}
 use Rattle.rounds.specs.Rounds.{place_of}
@@ -10,6 +9,3 @@ use Rattle.rounds.proofs.runs.fill_classes.Given as goal
 
 abbrev pub invariant-loop-from : goal.invariant-loop-from
 invariant-loop-from l = (place_of l.place ≡ ahead (rate_with l.setting 0) l.from (place_of l.initial.place)) × Classes l.setting l.coefs l.mem (place_of l.initial.place) l.weave.count l.initial.out l.weave.den l.from l.out
-
-abbrev pub decreases-loop-from : goal.decreases-loop-from
-decreases-loop-from l = l.weave.den - l.from

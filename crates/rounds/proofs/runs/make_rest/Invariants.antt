@@ -1,9 +1,7 @@
--- `rounds::runs::make_rest` meets its contract. The invariant: what is made goes on what was, for any start of the run. The measure is how many
--- outputs are left. Assumes nothing.
+-- `rounds::runs::make_rest` meets its contract. The invariant: what is made goes on what was, for any start of the run. Assumes nothing.
 use mathlib.Core.Path.{◌≡◌}
 use mathlib.Core.List.{List}
-use Prim.Native.Nat.{◌-◌, ◌≤◌}
-use lib.ListN.{length}
+use Prim.Native.Nat.{◌-◌}
 use lib.Ieee.{Float}
 use Rattle.timeline.specs.Numbers as numbers
 use Rattle.timeline.specs.Numbers.{ahead}
@@ -13,7 +11,4 @@ use Rattle.rounds.specs.Runs.{Ran}
 use Rattle.rounds.proofs.runs.make_rest.Given as goal
 
 abbrev pub invariant-loop-i : goal.invariant-loop-i
-invariant-loop-i l = (l.initial.i ≤ l.i) × (l.i ≤ l.count) × (length l.out ≡ length l.initial.out) × (place_of l.place ≡ ahead (rate_with l.setting 0) (l.i - l.initial.i) (place_of l.initial.place)) × ((p : numbers.Place) (was : List Float) → Ran l.setting l.coefs l.mem p l.count l.initial.i (place_of l.initial.place) was l.initial.out → Ran l.setting l.coefs l.mem p l.count l.i (place_of l.place) was l.out)
-
-abbrev pub decreases-loop-i : goal.decreases-loop-i
-decreases-loop-i l = l.count - l.i
+invariant-loop-i l = (place_of l.place ≡ ahead (rate_with l.setting 0) (l.i - l.initial.i) (place_of l.initial.place)) × ((p : numbers.Place) (was : List Float) → Ran l.setting l.coefs l.mem p l.count l.initial.i (place_of l.initial.place) was l.initial.out → Ran l.setting l.coefs l.mem p l.count l.i (place_of l.place) was l.out)

@@ -1,11 +1,14 @@
 -- `rounds::runs::make_three` meets its contract: the fourth place is the third once more. Assumes nothing.
-use mathlib.Core.Path.{◌≡◌, refl}
+use mathlib.Core.Path.{◌≡◌, refl, sym, ap, ◌∙◌}
 use native.Mathlib.Omega.{arith}
-use lib.ListN.{length-set}
-use Rattle.timeline.specs.Numbers.{ahead}
+use lib.ListN.{length, take, get_or}
+use lib.Seq.{get_or-take}
+use lib.Ieee.{Float, nan}
+use mathlib.Core.List.{List}
+use Rattle.timeline.specs.Numbers.{next, ahead}
 use Rattle.rates.specs.Rated.{rate_with}
 use Rattle.rounds.specs.Rounds.{place_of}
-use Rattle.rounds.proofs.Running.{here, later, one_on, three_on}
+use Rattle.rounds.proofs.Running.{here, later, one_on, four_values, side_by_side}
 use Rattle.rounds.proofs.runs.make_three.Goals as goal
 use Rattle.rounds.proofs.runs.make_three.Goals.{After-advance-b, After-advance-c}
 
@@ -22,18 +25,6 @@ place-c c =
     let x = c.args in
     one_on (rate_with x.setting 0) 1 (place_of x.before.place) (place-b (goal.at-After-advance-c c).After-advance-b) c.advance-c.ensures
 
-pub advance-b-requires : goal.advance-b-requires
-advance-b-requires c =
-    let f = c.requires.0 in
-    let a = here 0 f refl (omega arith) in
-    (f.playable, a.phase, omega (arith, a.position))
-
-pub advance-c-requires : goal.advance-c-requires
-advance-c-requires c =
-    let f = c.requires.0 in
-    let b = here 1 f (place-b c) (omega arith) in
-    (f.playable, b.phase, omega (arith, b.position))
-
 pub output_four-y-requires : goal.output_four-y-requires
 output_four-y-requires c =
     let x = c.args in
@@ -46,12 +37,6 @@ output_four-y-requires c =
     let third = here 2 f (place-c c) (omega arith) in
     record { playable = (f.playable, f.table, ab, omega (arith, ab, bc), bc, omega arith); stands = (a, b, third, third) }
 
-pub bounds-out-i-2 : goal.bounds-out-i-2
-bounds-out-i-2 c = rw length-set (omega arith)
-
-pub bounds-out-i-3 : goal.bounds-out-i-3
-bounds-out-i-3 c = rw (length-set, length-set) (omega arith)
-
 pub advance-requires : goal.advance-requires
 advance-requires c =
     let f = c.requires.0 in
@@ -61,5 +46,15 @@ advance-requires c =
 pub returns : goal.returns
 returns c p was f =
     let x = c.args in
-    three_on x.setting x.coefs.now x.mem.now p x.count was x.before.written (place_of c.advance-c.result) f c.requires.1 (omega (arith, f.same, c.requires.2))
-    c.output_four-y.ensures c.advance-b.ensures c.advance-c.ensures c.advance.ensures
+    let r = rate_with x.setting 0 in
+    let eb = c.advance-b.ensures in
+    let ec = c.advance-c.ensures in
+    let y = c.output_four-y.result in
+    let part = c.copy_from_slice.ensures.after in
+    let three = part ∙ ap (take 3) c.output_four-y.ensures in
+    side_by_side x.setting x.coefs.now x.mem.now p x.count was x.before.written 3 c.copy_from_slice.new.self f c.requires.1 (omega (arith, f.same, c.requires.2))
+    (sym (ap length three))
+    (λ j h. ap (λ (l : List Float). get_or l j nan) part
+    ∙ get_or-take 3 y j nan h
+    ∙ four_values x.setting x.coefs.now x.mem.now 3 _ _ _ _ (omega arith) c.output_four-y.ensures eb ec (λ u. absurd (omega arith)) j h)
+    (c.advance.ensures ∙ ap (next r) (ec ∙ ap (next r) eb))
