@@ -78,16 +78,16 @@ pub samples_to : {s : Setting} → Playable s → (x : ℕ) → x ≤ 2 ^ 32 →
 samples_to g x h = mul-le-mul g.terms.den_to h
 
 -- the last output stands at sample 2^32 at most, and the place after it one step further
-pub span_to : {s : Setting} {p : Place} (count : ℕ) → Numbered s p count → count * s.num ≤ 192000 * 2 ^ 32 + 384000
-span_to zero g = omega arith
-span_to {s} {p} (suc k) g =
+pub span_to : {s : Setting} {p : Place} (count : ℕ) → Playable s → Numbered s p count → count * s.num ≤ 192000 * 2 ^ 32 + 384000
+span_to zero y g = omega arith
+span_to {s} {p} (suc k) y g =
     let r = rate_with s 0 in
-    let t = g.playable.terms in
-    let far : s.den * (ahead r k p).position ≤ 192000 * 2 ^ 32 = samples_to g.playable (ahead r k p).position (g.each k (omega arith)) in
+    let t = y.terms in
+    let far : s.den * (ahead r k p).position ≤ 192000 * 2 ^ 32 = samples_to y (ahead r k p).position (g.each k (omega arith)) in
     omega (arith, far, ahead_reach r k p, ahead_phase r t.den_from k p g.phase, t.num_to, t.den_to)
 
 -- the last output itself
-pub span_before : {s : Setting} {p : Place} (count : ℕ) → Numbered s p count → (count - 1) * s.num ≤ 192000 * 2 ^ 32 + 384000
-span_before {s} count g =
+pub span_before : {s : Setting} {p : Place} (count : ℕ) → Playable s → Numbered s p count → (count - 1) * s.num ≤ 192000 * 2 ^ 32 + 384000
+span_before {s} count y g =
     let less : count - 1 ≤ count = omega arith in
-    omega (arith, mul-le-mul_right s.num less, span_to count g)
+    omega (arith, mul-le-mul_right s.num less, span_to count y g)

@@ -28,7 +28,7 @@ use Rattle.timeline.proofs.Outputs.{length_outputs}
 use Rattle.rates.specs.Rated.{rate_with}
 use Rattle.rates.specs.declared.Setting.{Setting}
 use Rattle.rounds.specs.Output.{weigh_of}
-use Rattle.rounds.specs.Rounds.{RoundFits, Wrote, Filled}
+use Rattle.rounds.specs.Rounds.{Playable, RoundFits, Wrote, Filled}
 use Rattle.rounds.specs.Runs.{Numbered, Stands, RunFits, four_outputs, Ran}
 
 module _ (s : Setting) (alloc : ℕ) where
@@ -62,7 +62,6 @@ pub numbered : {s : Setting} {p : Place} {inn mem coefs : ℕ} (room : ℕ) {cou
     → Numbered s p count
 numbered {s} {p} {inn} room f e =
     record {
-      playable = f.playable;
       phase = f.phase;
       position = f.position;
       each = λ j h. omega (arith, made_below (rate_with s 0) inn room p j (omega arith), f.samples_to);
@@ -70,10 +69,9 @@ numbered {s} {p} {inn} room f e =
 
 -- and their windows
 pub run_fits : {s : Setting} {p : Place} {inn mem coefs : ℕ} (room : ℕ) {count : ℕ} → RoundFits s p inn mem coefs → count ≡ made (rate_with s 0) inn room p
-    → RunFits s p count mem coefs
+    → RunFits s p count mem
 run_fits {s} {p} {inn} room f e =
     record {
-      playable = f.playable;
       phase = f.phase;
       each = λ j h.
           let below = made_below (rate_with s 0) inn room p j (omega arith) in
@@ -82,24 +80,21 @@ run_fits {s} {p} {inn} room f e =
             position = omega (arith, below, f.samples_to);
             window = omega (arith, below, f.samples, f.playable.n_some);
           };
-      table = f.table;
     }
 
 -- where output i of a run stands
-pub here : {s : Setting} {p : Place} {count mem coefs : ℕ} (i : ℕ) {q : Place} → RunFits s p count mem coefs → q ≡ ahead (rate_with s 0) i p → i < count
+pub here : {s : Setting} {p : Place} {count mem : ℕ} (i : ℕ) {q : Place} → RunFits s p count mem → q ≡ ahead (rate_with s 0) i p → i < count
     → Stands s q mem
 here {s} {p} {count} {mem} i f e h = subst (λ (x : Place). Stands s x mem) (sym e) (f.each i h)
 
 -- the outputs that are left of a run are a run
-pub onward : {s : Setting} {p : Place} {count mem coefs : ℕ} (i k : ℕ) {q : Place} → RunFits s p count mem coefs → q ≡ ahead (rate_with s 0) i p → i + k ≤ count
-    → RunFits s q k mem coefs
-onward {s} {p} {count} {mem} {coefs} i k f e h =
-    subst (λ (x : Place). RunFits s x k mem coefs) (sym e)
+pub onward : {s : Setting} {p : Place} {count mem : ℕ} (i k : ℕ) {q : Place} → Playable s → RunFits s p count mem → q ≡ ahead (rate_with s 0) i p → i + k ≤ count
+    → RunFits s q k mem
+onward {s} {p} {count} {mem} i k g f e h =
+    subst (λ (x : Place). RunFits s x k mem) (sym e)
     (record {
-      playable = f.playable;
-      phase = ahead_phase r f.playable.terms.den_from i p f.phase;
+      phase = ahead_phase r g.terms.den_from i p f.phase;
       each = λ j l. subst (λ (x : Place). Stands s x mem) (ahead_add r i j p) (f.each (i + j) (omega arith));
-      table = f.table;
     })
   where
     r : Rate
