@@ -1,4 +1,4 @@
--- `calls::process_magic` plays the round over the magic samples. Assumes nothing.
+-- `calls::Call::process_magic` plays the round over the magic samples. Assumes nothing.
 use Prim.Native.Nat.{◌≤◌}
 use native.Mathlib.Omega.{arith}
 use lib.ListN.{length}
@@ -6,21 +6,21 @@ use Rattle.rates.specs.Rated.{rate_with}
 use Rattle.rounds.specs.Output.{weigh_of}
 use Rattle.rounds.specs.Rounds.{place_of}
 use Rattle.calls.proofs.Magic.{none_wrote, consumes, some_wrote}
-use Rattle.calls.proofs.process_magic.Goals as goal
-use Rattle.calls.proofs.process_magic.Goals.{After-process_native-turn}
+use Rattle.calls.proofs.Call.process_magic.Goals as goal
+use Rattle.calls.proofs.Call.process_magic.Goals.{After-process_native-turn}
 
 -- the round consumed at most the magic samples
 within : (c : After-process_native-turn) → c.process_native-turn.result.consumed.0 ≤ c.args.magic
 within c =
     let a = c.args in
-    consumes (weigh_of a.setting a.coefs.now) (rate_with a.setting 0) a.magic
+    consumes (weigh_of a.self.now.setting a.self.now.coefs.now) (rate_with a.self.now.setting 0) a.magic
     (length a.out.now) (place_of a.place) a.mem.now
     (c.process_native-turn.ensures 0)
 
 pub returns-then-magic-eq0 : goal.returns-then-magic-eq0
 returns-then-magic-eq0 c alloc =
     let a = c.args in
-    none_wrote (weigh_of a.setting a.coefs.now) (rate_with a.setting alloc) a.magic
+    none_wrote (weigh_of a.self.now.setting a.self.now.coefs.now) (rate_with a.self.now.setting alloc) a.magic
     (length a.out.now) (place_of a.place) a.mem.now
     a.out.now c.if-magic-eq0.true
 
@@ -39,6 +39,6 @@ move_within-requires c =
 pub returns : goal.returns
 returns c alloc =
     let a = c.args in
-    some_wrote (weigh_of a.setting a.coefs.now) (rate_with a.setting alloc) a.magic
+    some_wrote (weigh_of a.self.now.setting a.self.now.coefs.now) (rate_with a.self.now.setting alloc) a.magic
     (length a.out.now) (place_of a.place) a.mem.now
     (omega (arith, c.if-magic-eq0.false)) (c.process_native-turn.ensures alloc) c.move_within.ensures

@@ -1,4 +1,4 @@
--- `calls::process_chunks` plays the rounds over the input: the invariant is `Playing`, and what is left of the input and of the room falls.
+-- `calls::Call::process_chunks` plays the rounds over the input: the invariant is `Playing`, and what is left of the input and of the room falls.
 -- Assumes nothing.
 use mathlib.Core.Logic.{inl, inr}
 use native.Mathlib.Omega.{arith}
@@ -10,20 +10,20 @@ use Rattle.rounds.specs.Rounds.{place_of, turn_of}
 use Rattle.calls.proofs.Asks.{fit, slow, fits_at}
 use Rattle.calls.proofs.Onward.{put_back}
 use Rattle.calls.proofs.Playing.{Turned, begins, ends, goes_on}
-use Rattle.calls.proofs.process_chunks.Goals as goal
-use Rattle.calls.proofs.process_chunks.Goals.{After-process_chunk-turn}
+use Rattle.calls.proofs.Call.process_chunks.Goals as goal
+use Rattle.calls.proofs.Call.process_chunks.Goals.{After-process_chunk-turn}
 
 -- what the call's round did, written into the parts that were lent to it
 turned : (c : After-process_chunk-turn) →
     let a = c.args in
     let v = c.loop-read in
-    Turned (weigh_of a.setting a.coefs.now) (rate_with a.setting a.alloc) a.input.now a.mem.now a.out.now (place_of a.place)
+    Turned (weigh_of a.self.now.setting a.self.now.coefs.now) (rate_with a.self.now.setting a.self.now.alloc) a.input.now a.mem.now a.out.now (place_of a.place)
     v.read v.done (turn_of c.process_chunk-turn.result) c.process_chunk-turn.new.mem v.out c.process_chunk-turn.new.out
 turned c =
     let a = c.args in
     let f = c.requires in
     let v = c.loop-read in
-    goes_on (weigh_of a.setting a.coefs.now) (rate_with a.setting a.alloc) a.input.now a.mem.now a.out.now (place_of a.place)
+    goes_on (weigh_of a.self.now.setting a.self.now.coefs.now) (rate_with a.self.now.setting a.self.now.alloc) a.input.now a.mem.now a.out.now (place_of a.place)
     (fit f) (slow f) f.lent v.invariant (omega (arith, c.loop-read-test.true))
     (omega (arith, c.if-done-out.true, v.invariant.long))
     (rest a.input.now v.read) (rest v.out v.done) c.process_chunk-turn.ensures

@@ -1,4 +1,4 @@
--- `calls::process_chunk` plays the first round over the input. Assumes nothing.
+-- `calls::Call::process_chunk` plays the first round over the input. Assumes nothing.
 use native.Mathlib.Omega.{arith}
 use lib.ListN.{length}
 use Rattle.rates.specs.Rated.{rate_with}
@@ -6,7 +6,7 @@ use Rattle.rounds.specs.Output.{weigh_of}
 use Rattle.rounds.specs.Rounds.{place_of}
 use Rattle.calls.proofs.Asks.{round_fits, fits_at}
 use Rattle.calls.proofs.Playing.{chunk_wrote}
-use Rattle.calls.proofs.process_chunk.Goals as goal
+use Rattle.calls.proofs.Call.process_chunk.Goals as goal
 
 pub process_native-requires : goal.process_native-requires
 process_native-requires c =
@@ -16,6 +16,6 @@ process_native-requires c =
 pub returns : goal.returns
 returns c =
     let a = c.args in
-    chunk_wrote (weigh_of a.setting a.coefs.now) (rate_with a.setting a.alloc) a.input.now
+    chunk_wrote (weigh_of a.self.now.setting a.self.now.coefs.now) (rate_with a.self.now.setting a.self.now.alloc) a.input.now
     (length a.out.now) (place_of a.place) a.mem.now
-    c.min-count.result c.min-count.ensures c.copy_in.ensures (c.process_native.ensures a.alloc)
+    c.min-count.result c.min-count.ensures c.copy_in.ensures (c.process_native.ensures a.self.now.alloc)
