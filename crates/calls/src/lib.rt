@@ -99,6 +99,7 @@ impl<'a> Call<'a> {
 }
 
 // One call. With magic samples left after their round nothing is read from the input.
+// The parameters stand apart: mem and out are lent for one call, and a struct would live no longer.
 pub fn process_call(
     setting: Setting,
     alloc: usize,

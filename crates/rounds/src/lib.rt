@@ -108,6 +108,7 @@ impl<'a> Player<'a> {
 // One round over the in_len samples that stand at entry n - 1 of the history on: the outputs, then
 // the history moves down by what was consumed. How much of the history is used, alloc, does not
 // matter to a round.
+// The parameters stand apart: mem and out are lent for one call, and a struct would live no longer.
 pub fn process_native(
     setting: Setting,
     place: Place,

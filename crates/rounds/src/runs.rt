@@ -81,6 +81,7 @@ impl<'a> Player<'a> {
         ensures { Ran self.now.setting self.now.coefs.now self.now.mem.now (place_of start) count result.written (place_of result.place) out.old out.new }
     {
         let mut place = start;
+        // Not by `chunks_exact_mut`: a proof learns no entry that is written through its parts.
         for quad in 0..count / 4 {
             let b = self.advance(place);
             let c = self.advance(b);
@@ -169,8 +170,7 @@ impl<'a> Player<'a> {
         ensures { Ran self.now.setting self.now.coefs.now self.now.mem.now (place_of place) weave.count weave.count (ahead (rate_with self.now.setting 0) weave.count (place_of place)) out.old out.new }
     {
         let at = place.position;
-        // As many entries as `lanes::ROOM` says.
-        let mut x: [f32; 2048] = [0.0; 2048];
+        let mut x = [0.0; lanes::ROOM];
         lanes::lay_out(
             &mut x,
             &self.mem[at..],
