@@ -1,19 +1,16 @@
--- A run of outputs: before the first, over one, after the last; and the round that it leads to.
---     any_ahead, any_outputs, any_made     how much of the history is used does not matter to them
---     starts, goes_on, ends                the run
+-- A run of outputs: before the first and over one; and the round that it leads to.
+--     starts, goes_on                      the run
 --     four_values, side_by_side            over outputs that were made side by side
 --     numbered, run_fits                   what a run asks, from what a round asks
 --     here, onward, later                  where its outputs stand
 --     round_wrote                          the outputs are made, and the history moves down
 -- Assumes nothing.
 use mathlib.Core.Path.{◌≡◌, refl, sym, ap, subst, ◌∙◌}
-use mathlib.Core.Bool.{true, false}
-use mathlib.Core.List.{List, ◌∷◌}
+use mathlib.Core.List.{List}
 use Prim.Native.Nat.{ℕ, zero, suc, ◌+◌, ◌-◌, ◌≤◌, ◌<◌, min}
 use native.Mathlib.Nat.{zero-add, not-suc-le-zero}
 use native.Mathlib.Numerals.{add-one}
 use native.Mathlib.Omega.{arith}
-use lib.Dec.{ltb}
 use lib.ListN.{length, drop, set, get_or}
 use lib.Seq.{paste, paste-zero, paste-suc}
 use borrow.Rule.Slice.PartMut.{put_mid}
@@ -30,21 +27,6 @@ use Rattle.rates.specs.declared.Setting.{Setting}
 use Rattle.rounds.specs.Output.{weigh_of}
 use Rattle.rounds.specs.Rounds.{Playable, RoundFits, Wrote, Filled}
 use Rattle.rounds.specs.Runs.{Numbered, Stands, RunFits, four_outputs, Ran}
-
-module _ (s : Setting) (alloc : ℕ) where
-  any_ahead : (k : ℕ) (p : Place) → ahead (rate_with s alloc) k p ≡ ahead (rate_with s 0) k p
-  any_ahead zero p = refl
-  any_ahead (suc k) p = any_ahead k (next (rate_with s 0) p)
-
-  any_outputs : {A : Type 0} (weigh : ℕ → List A → A) (mem : List A) (k : ℕ) (p : Place)
-      → outputs weigh (rate_with s alloc) mem k p ≡ outputs weigh (rate_with s 0) mem k p
-  any_outputs weigh mem zero p = refl
-  any_outputs weigh mem (suc k) p = ap (λ (l : List _). output weigh (rate_with s 0) mem p ∷ l) (any_outputs weigh mem k (next (rate_with s 0) p))
-
-  any_made : (i room : ℕ) (p : Place) → made (rate_with s alloc) i room p ≡ made (rate_with s 0) i room p
-  any_made i zero p = refl
-  any_made i (suc room) p =
-      ap (λ (k : ℕ). elim (ltb p.position i) [ true ↦ suc k | false ↦ 0 ]) (any_made i room (next (rate_with s 0) p))
 
 -- output j of k
 pub output_of : {A : Type 0} (weigh : ℕ → List A → A) (r : Rate) (mem : List A) (k j : ℕ) (p : Place) (z : A) → j < k
@@ -156,22 +138,6 @@ module _ (s : Setting) (coefs mem : List Float) (p : Place) (count : ℕ) (befor
       → Ran s coefs mem p count (i + k) q' before (put_mid i (i + k - i) after part)
   side_by_side i k part {after = after} f h l m v e =
       rw (put_mid-paste i (i + k - i) after part part k refl (omega arith) m) (laid i k part f h l (omega arith) v e)
-
-  pub ends : (i : ℕ) {q : Place} {after : List Float} → Ran s coefs mem p count count q before after → count ≡ made (rate_with s 0) i (length before) p
-      → (alloc : ℕ) → Filled (weigh_of s coefs) (rate_with s alloc) i p mem count q before after
-  ends i f e alloc =
-      record {
-        count = e ∙ sym (any_made s alloc i (length before) p);
-        place = f.place ∙ sym (any_ahead s alloc count p);
-        out = f.out ∙ ap (λ (l : List Float). paste before 0 l count) (sym (any_outputs s alloc (weigh_of s coefs) mem count p));
-      }
-
--- a run that is told by other names for its count and its end
-pub renamed : {s : Setting} {coefs mem : List Float} {p q : Place} {k count : ℕ} {before after : List Float} → k ≡ count
-    → Ran s coefs mem p k k (ahead (rate_with s 0) k p) before after → q ≡ ahead (rate_with s 0) count p → Ran s coefs mem p count count q before after
-renamed {s} {coefs} {mem} {p} {before = before} {after = after} e f h =
-    let g = subst (λ (j : ℕ). Ran s coefs mem p j j (ahead (rate_with s 0) j p) before after) e f in
-    record { within = g.within; place = h; same = g.same; out = g.out }
 
 -- a round: its outputs are made, the smaller of position and samples in is consumed, and the history moves down by that
 pub round_wrote : {A : Type 0} {weigh : ℕ → List A → A} {r : Rate} {i : ℕ} {p : Place} {mem : List A} {written : ℕ} {q : Place} {before after : List A}
