@@ -6,10 +6,9 @@ use Prim.Native.Nat.{ℕ}
 use lib.Ieee.{Float}
 use Rattle.quality.specs.House.{house}
 use Rattle.state.specs.declared.ResamplerState.{ResamplerState}
-use Rattle.resampler.specs.Answers.{Told, told}
+use Rattle.resampler.specs.Answers.{Answer, Told, told}
 use Rattle.resampler.specs.Entries.{rate_told, rate_history, rate_coefficients, process_told, process_history, process_output, reset_told, reset_history}
 use Rattle.resampler.specs.Promises.{SetsRate, Processes, Resets}
-use Rattle.resampler.specs.declared.Answer.{Answer}
 use Rattle.flat.specs.Flat.{state_of, is_state, flat_told, no_state, flat_call}
 use Rattle.flat.specs.declared.FlatState.{FlatState}
 use Rattle.flat.specs.declared.FlatAnswer.{FlatAnswer}

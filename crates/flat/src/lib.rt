@@ -13,7 +13,7 @@ ghost use Rattle.flat.specs.Flat.{kernel_at, flat_of, state_of, is_state, flat_t
 use judge::Refusal;
 use rates::Kernel;
 use recording::Total;
-use resampler::Answer;
+use resampler::{Accepted, Refused};
 use state::ResamplerState;
 
 // The highest number that a kernel has.
@@ -154,24 +154,22 @@ pub fn no_state(flat: FlatState) -> FlatAnswer
 }
 
 // What an answer tells. A call reads and writes at most 16,777,216 samples, so no count is cut.
-pub fn flat_answer(answer: Answer) -> FlatAnswer
+pub fn flat_answer(answer: Result<Accepted, Refused>) -> FlatAnswer
     requires { ((told answer).consumed ≤ max_call) × ((told answer).written ≤ max_call) }
     ensures { result ≡ flat_told (told answer) }
 {
     match answer {
-        Answer::Refused(refusal, state) => {
-            FlatAnswer {
-                refusal: refusal.number(),
-                consumed: 0,
-                written: 0,
-                state: flat_of(state),
-            }
-        }
-        Answer::Accepted(state, consumed, written) => FlatAnswer {
+        Ok(accepted) => FlatAnswer {
             refusal: 0,
-            consumed: consumed.0 as u32,
-            written: written.0 as u32,
-            state: flat_of(state),
+            consumed: accepted.consumed.0 as u32,
+            written: accepted.written.0 as u32,
+            state: flat_of(accepted.state),
+        },
+        Err(refused) => FlatAnswer {
+            refusal: refused.refusal.number(),
+            consumed: 0,
+            written: 0,
+            state: flat_of(refused.state),
         },
     }
 }

@@ -23,9 +23,8 @@ use Rattle.reshape.specs.Reshaped.{reshaped_history}
 use Rattle.state.specs.State.{fresh_state, setting_in}
 use Rattle.state.specs.Belongs.{belongs_together}
 use Rattle.state.proofs.Belonging.{fresh_state_belongs, rated_belongs}
-use Rattle.judge.specs.Verdicts.{refuse_if, new_verdict, rate_verdict}
+use Rattle.judge.specs.Verdicts.{accept, refuse_if, new_verdict, rate_verdict}
 use Rattle.judge.specs.declared.Refusal.TheVariants.{History, Coefficients}
-use Rattle.judge.specs.declared.Verdict.TheVariants.{Accept}
 use Rattle.judge.proofs.Judged.{ProcessAccepted}
 use Rattle.update.specs.Updated.{with_setting, updated_coefficients}
 use Rattle.update.proofs.Updates as updates
@@ -70,7 +69,7 @@ module _ (row : QualityMapping) (source target : ℕ) where
     -- only the lengths of the slices decide
     by_lengths : (memLen coefsLen : ℕ) → rate_verdict row (fresh_state target) source memLen coefsLen
         ≡ refuse_if (ltb memLen (history_needed (setting_of row source target).filt_len)) History
-        (refuse_if (ltb coefsLen (setting_of row source target).coefs) Coefficients Accept)
+        (refuse_if (ltb coefsLen (setting_of row source target).coefs) Coefficients accept)
     unfolding rate_verdict fresh_state
     by_lengths memLen coefsLen =
         rw (fresh_state_belongs row target ht, test_passes source hs, first_other source hs, zero-max (history_needed setting.filt_len))
@@ -83,7 +82,7 @@ module _ (row : QualityMapping) (source target : ℕ) where
 
     -- slices that are long enough
     first_verdict : (memLen coefsLen : ℕ) → history_needed (setting_of row source target).filt_len ≤ memLen
-        → (setting_of row source target).coefs ≤ coefsLen → rate_verdict row (fresh_state target) source memLen coefsLen ≡ Accept
+        → (setting_of row source target).coefs ≤ coefsLen → rate_verdict row (fresh_state target) source memLen coefsLen ≡ accept
     first_verdict memLen coefsLen m k = rw (by_lengths memLen coefsLen, le-ltb memLen _ m, le-ltb coefsLen _ k)
 
     -- the state belongs together

@@ -8,6 +8,7 @@ use native.Mathlib.Omega.{arith}
 use borrow.Author.Tests.{eq-eqb}
 use lib.Ieee.{Float}
 use lib.ListN.{length}
+use Rattle.std.proofs.lemmas.Bool.{cond_both, false_from_ne_true}
 use Rattle.sizes.specs.Sizes.{InLimits, in_limits, history_needed}
 use Rattle.sizes.proofs.Tests.{test_passed}
 use Rattle.timeline.specs.Numbers.{Called, call, runs}
@@ -20,9 +21,7 @@ use Rattle.state.specs.State.{fresh_state, zero_state, setting_in, moved_to}
 use Rattle.state.specs.Belongs.{position_bound, belongs_together}
 use Rattle.state.specs.declared.ResamplerState.{ResamplerState}
 use Rattle.state.proofs.Belonging.{Fresh, Rated, belongs_is, fresh_state_belongs, rated_belongs}
-use Rattle.judge.specs.Verdicts.{new_verdict, rate_verdict, process_verdict, reset_verdict, skip_verdict}
-use Rattle.judge.specs.declared.Verdict.{Verdict}
-use Rattle.judge.specs.declared.Verdict.TheVariants.{Accept}
+use Rattle.judge.specs.Verdicts.{Verdict, accept, new_verdict, rate_verdict, process_verdict, reset_verdict, skip_verdict}
 use Rattle.judge.proofs.Judged.{new_accepts, rate_accepts, reset_accepts, skip_accepts, zero_gets_7}
 use Rattle.update.specs.Updated.{change_of, with_setting, updated_state}
 use Rattle.update.proofs.Updates as updates
@@ -35,7 +34,7 @@ use Rattle.pinned.proofs.Verdicts.{numbered, cases, same_or_other}
 
 -- ---- by the verdict: a refusal has a number, so it claims nothing
 belonging_by : (row : QualityMapping) (given : ResamplerState) (v : Verdict) (done : Told)
-    → (v ≡ Accept → Belonging row done) → Belonging row (by_verdict v (λ r. refused r given) done)
+    → (v ≡ accept → Belonging row done) → Belonging row (by_verdict v (λ r. refused r given) done)
 belonging_by row given v done f =
     cases (λ (w : Verdict). Belonging row (by_verdict w (λ r. refused r given) done)) v (λ r e. absurd (omega (arith, numbered r))) f
 
@@ -116,10 +115,6 @@ module _ (row : QualityMapping) (sane : Sane row) (s : ResamplerState) where
       (updated_rated source (length mem) (length coefs) (updates.rate_ready row sane s source (length mem) (length coefs) v other))))
 
   -- ---- process
-  started_to : (t : Bool) → s.started ≤ 1 → cond t 1 s.started ≤ 1
-  started_to true h = omega arith
-  started_to false h = h
-
   not_started : (t : Bool) → cond t 1 s.started ≡ 0 → s.started ≡ 0
   not_started true e = absurd (omega arith)
   not_started false e = e
@@ -131,7 +126,7 @@ module _ (row : QualityMapping) (sane : Sane row) (s : ResamplerState) where
       let position = processes.call_position row sane s r inn room in
       rw e
       (record {
-        started_to = started_to (runs s.magic_samples inn room) r.started;
+        started_to = cond_both (runs s.magic_samples inn room) 1 s.started (λ x. x ≤ 1) (λ t. omega arith) (λ t. r.started);
         unstarted = λ z. let none = r.unstarted (not_started (runs s.magic_samples inn room) z) in omega (arith, law.magic);
         position_to = omega arith;
         phase_to = law.phase;
@@ -200,11 +195,7 @@ module _ (row : QualityMapping) (sane : Sane row) (s : ResamplerState) where
 -- ---- a refused new state, and every later call with its state
 pub refused_new : (target : ℕ) → (InLimits target → ⊥) → new_told target ≡ new_refused
 unfolding new_told new_verdict
-refused_new target h = rw (outside (in_limits target) refl)
-  where
-    outside : (t : Bool) → in_limits target ≡ t → in_limits target ≡ false
-    outside true e = absurd (h (test_passed target e))
-    outside false e = e
+refused_new target h = rw (false_from_ne_true (in_limits target) (λ e. h (test_passed target e)))
 
 module _ (row : QualityMapping) where
   pub zero_refused_everywhere : (source : ℕ) (mem coefs input out : List Float)

@@ -8,53 +8,80 @@
 
 ghost use Rattle.std.specs.Prelude.{◌≡◌};
 ghost use Rattle.quality.specs.House.{house};
-ghost use Rattle.resampler.specs.Answers.{told};
+ghost use Rattle.resampler.specs.Answers.{told, accepted, Judged};
 ghost use Rattle.resampler.specs.Entries.{new_told, skip_told};
 ghost use Rattle.resampler.specs.Promises.{SetsRate, Processes, Resets};
 
 pub use judge::Refusal;
-use judge::Verdict;
+pub use process::Accepted;
 use quality::QualityMapping;
 pub use rates::Kernel;
 pub use rounds::{Consumed, Written};
 pub use state::ResamplerState;
 
-// What a call answers. Refused: the state as it was given, or for a refused new state the one whose
-// numbers are all 0. Accepted: the state for the next call, and the counts.
+// What a refused call gives: why, and the state as it was given, or for a refused new state the one
+// whose numbers are all 0.
 #[derive(Clone, Copy)]
-pub enum Answer {
-    Refused(Refusal, ResamplerState),
-    Accepted(ResamplerState, Consumed, Written),
+pub struct Refused {
+    pub refusal: Refusal,
+    pub state: ResamplerState,
+}
+
+// The state that an answer carries, whether it refuses or not.
+pub fn state_of(answer: Result<Accepted, Refused>) -> ResamplerState
+    ensures { result ≡ (told answer).state }
+{
+    match answer {
+        Ok(accepted) => accepted.state,
+        Err(refused) => refused.state,
+    }
+}
+
+// The verdict on a call with this state, which a refusal gives back as it was given.
+fn judged(verdict: Result<(), Refusal>, state: ResamplerState) -> Result<(), Refused>
+    ensures { Judged verdict state result }
+{
+    verdict.map_err(|refusal| Refused { refusal, state })
+}
+
+// An accepted call that read and wrote nothing.
+fn uncounted(state: ResamplerState) -> Result<Accepted, Refused>
+    ensures { told result ≡ accepted state 0 0 }
+{
+    Ok(Accepted {
+        state,
+        consumed: Consumed(0),
+        written: Written(0),
+    })
 }
 
 // A new state for a target rate. Refusal 1.
-pub fn new(target: u32) -> Answer
+pub fn new(target: u32) -> Result<Accepted, Refused>
     ensures { told result ≡ new_told target }
 {
-    let verdict = judge::judge_new(target);
-    match verdict {
-        Verdict::Refuse(refusal) => Answer::Refused(refusal, ResamplerState::zero()),
-        Verdict::Accept => Answer::Accepted(ResamplerState::fresh(target), Consumed(0), Written(0)),
-    }
+    let state = ResamplerState::zero();
+    judged(judge::judge_new(target), state)?;
+    uncounted(ResamplerState::fresh(target))
 }
 
 // Sets the source rate. Refusals 7, 1, 2, 3, in that order; the rate that is set already is accepted
 // with no look at the slices. What lies past alloc and past the table stays.
-pub fn source_hz(state: ResamplerState, source: u32, mem: &mut [f32], coefs: &mut [f32]) -> Answer
+pub fn source_hz(
+    state: ResamplerState,
+    source: u32,
+    mem: &mut [f32],
+    coefs: &mut [f32],
+) -> Result<Accepted, Refused>
     ensures { SetsRate house state source mem.old coefs.old result mem.new coefs.new }
 {
     let row = QualityMapping::house();
     let verdict = judge::judge_rate(row, state, source, mem.len(), coefs.len());
-    match verdict {
-        Verdict::Refuse(refusal) => Answer::Refused(refusal, state),
-        Verdict::Accept => {
-            if state.source == source {
-                return Answer::Accepted(state, Consumed(0), Written(0));
-            }
-            let updated = update::update_filter(row, state, source, mem, coefs);
-            Answer::Accepted(updated, Consumed(0), Written(0))
-        }
+    judged(verdict, state)?;
+    if state.source == source {
+        return uncounted(state);
     }
+    let updated = update::update_filter(row, state, source, mem, coefs);
+    uncounted(updated)
 }
 
 // Resamples: reads from the input and writes to the output until one of them is used up. Refusals 7,
@@ -65,54 +92,40 @@ pub fn process_float(
     coefs: &[f32],
     input: &[f32],
     out: &mut [f32],
-) -> Answer
+) -> Result<Accepted, Refused>
     ensures { Processes house state mem.old coefs.now input.now out.old result mem.new out.new }
 {
     let row = QualityMapping::house();
     let verdict = judge::judge_process(row, state, mem.len(), coefs.len(), input.len(), out.len());
-    match verdict {
-        Verdict::Refuse(refusal) => Answer::Refused(refusal, state),
-        Verdict::Accept => {
-            let done = process::process(row, state, mem, coefs, input, out);
-            let after = done.state;
-            let consumed = done.consumed;
-            let written = done.written;
-            Answer::Accepted(after, consumed, written)
-        }
-    }
+    judged(verdict, state)?;
+    Ok(process::process(row, state, mem, coefs, input, out))
 }
 
 // Makes the state ready for another stream at the same rate. Refusals 7, 2. The position becomes 0,
 // not n/2, and a state that was started stays so, as in the Rust.
-pub fn reset_mem(state: ResamplerState, mem: &mut [f32]) -> Answer
+pub fn reset_mem(state: ResamplerState, mem: &mut [f32]) -> Result<Accepted, Refused>
     ensures { Resets house state mem.old result mem.new }
 {
     let row = QualityMapping::house();
-    let verdict = judge::judge_reset(row, state, mem.len());
-    match verdict {
-        Verdict::Refuse(refusal) => Answer::Refused(refusal, state),
-        Verdict::Accept => {
-            history::fill_zero(mem, 0, state.mem_alloc_size as usize);
-            let after = state.moved_to(state.started, 0, 0, 0);
-            Answer::Accepted(after, Consumed(0), Written(0))
-        }
-    }
+    judged(judge::judge_reset(row, state, mem.len()), state)?;
+    history::fill_zero(mem, 0, state.mem_alloc_size as usize);
+    uncounted(ResamplerState {
+        last_sample: 0,
+        samp_frac_num: 0,
+        magic_samples: 0,
+        ..state
+    })
 }
 
 // Moves the position to the middle of the filter, so that a stream does not begin with the filter's
 // run-in. Refusal 7. Without a rate the position is 0.
-pub fn skip_zeros(state: ResamplerState) -> Answer
+pub fn skip_zeros(state: ResamplerState) -> Result<Accepted, Refused>
     ensures { told result ≡ skip_told house state }
 {
     let row = QualityMapping::house();
-    let verdict = judge::judge_skip(row, state);
-    match verdict {
-        Verdict::Refuse(refusal) => Answer::Refused(refusal, state),
-        Verdict::Accept => {
-            let phase = state.samp_frac_num;
-            let magic = state.magic_samples;
-            let after = state.moved_to(state.started, state.filt_len / 2, phase, magic);
-            Answer::Accepted(after, Consumed(0), Written(0))
-        }
-    }
+    judged(judge::judge_skip(row, state), state)?;
+    uncounted(ResamplerState {
+        last_sample: state.filt_len / 2,
+        ..state
+    })
 }

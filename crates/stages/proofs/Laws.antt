@@ -14,10 +14,9 @@ use Rattle.timeline.proofs.Parts.{take_front}
 use Rattle.quality.specs.House.{house}
 use Rattle.quality.proofs.House.{house_sane}
 use Rattle.state.specs.declared.ResamplerState.{ResamplerState}
-use Rattle.resampler.specs.Answers.{Told, told}
+use Rattle.resampler.specs.Answers.{Answer, Told, told}
 use Rattle.resampler.specs.Entries.{new_told, rate_told, rate_history, rate_coefficients}
 use Rattle.resampler.specs.Promises.{SetsRate, Processes}
-use Rattle.resampler.specs.declared.Answer.{Answer}
 use Rattle.pinned.proofs.Untouched.{process_keeps_rest}
 use Rattle.pcm.specs.Blocks.{samples_of, bytes_of, laid_over, Decodes, Encodes}
 use Rattle.pcm.proofs.Blocks.{length_samples, length_bytes}

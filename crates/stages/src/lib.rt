@@ -9,7 +9,7 @@ ghost use Rattle.resampler.specs.Answers.{told};
 ghost use Rattle.edges.specs.Edges.{closing};
 ghost use Rattle.stages.specs.Promises.{bare_stage, stage_of, Opens, Pulls, Feeds};
 
-use resampler::{Answer, ResamplerState};
+use resampler::{Accepted, Refused, ResamplerState, state_of};
 
 // What is kept between two reads. `held` is 1 where the first byte of a sample stands at the start of
 // the block of bytes, else 0. `came` tells whether any sample came. `size` is how many bytes were
@@ -38,24 +38,11 @@ pub fn open(source: u32, target: u32, mem: &mut [f32], coefs: &mut [f32]) -> Res
     state_of(resampler::source_hz(fresh, source, mem, coefs))
 }
 
-// The state that an answer carries, whether it refuses or not.
-fn state_of(answer: Answer) -> ResamplerState
-    ensures { result ≡ (told answer).state }
-{
-    match answer {
-        Answer::Refused(_, state) => state,
-        Answer::Accepted(state, _, _) => state,
-    }
-}
-
 // How many outputs an answer tells.
-fn written_of(answer: Answer) -> u64
+fn written_of(answer: Result<Accepted, Refused>) -> u64
     ensures { result ≡ (told answer).written }
 {
-    match answer {
-        Answer::Refused(_, _) => 0,
-        Answer::Accepted(_, _, written) => written.0,
-    }
+    answer.map_or(0, |accepted| accepted.written.0)
 }
 
 // One call of the resampler, and its outputs as bytes at the start of `text`. An empty input is

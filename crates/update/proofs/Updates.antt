@@ -1,11 +1,12 @@
 -- An accepted change to another rate gives all that it asks for. Assumes nothing.
-use mathlib.Core.Path.{◌≡◌, refl, ap}
+use mathlib.Core.Path.{◌≡◌, ap}
 use mathlib.Core.Logic.{⊎_elim}
-use mathlib.Core.Bool.{Bool, true, false, cond}
+use mathlib.Core.Bool.{true}
 use Prim.Native.Nat.{ℕ, ◌+◌, ◌*◌, ◌≤◌, ◌<◌}
 use native.Mathlib.Omega.{arith}
 use lib.Dec.{eqb, ltb}
 use borrow.Author.Tests.{eqb-true, eqb-false, ltb-true, ltb-false}
+use Rattle.std.proofs.lemmas.Bool.{cond_both}
 use Rattle.sizes.specs.Sizes.{InLimits, buffer_entries, history_needed, max_history}
 use Rattle.quality.specs.Quality.{Sane}
 use Rattle.quality.specs.declared.QualityMapping.{QualityMapping}
@@ -19,8 +20,7 @@ use Rattle.reshape.specs.declared.Change.{Change}
 use Rattle.state.specs.State.{fresh_state}
 use Rattle.state.specs.declared.ResamplerState.{ResamplerState}
 use Rattle.state.proofs.Belonging.{Fresh, Rated, belongs_is, rated_limits}
-use Rattle.judge.specs.Verdicts.{history_after, rate_verdict}
-use Rattle.judge.specs.declared.Verdict.TheVariants.{Accept}
+use Rattle.judge.specs.Verdicts.{accept, history_after, rate_verdict}
 use Rattle.judge.proofs.Judged.{rate_accepts}
 use Rattle.update.specs.Updated.{change_of}
 
@@ -64,11 +64,6 @@ rated_stands row sane s r =
       filled = λ z. (omega (arith, l.n_from, sane.base_from), r.magic);
     }
 
--- a number picked by a test
-picked : (P : ℕ → Type 0) (t : Bool) {a b : ℕ} → (t ≡ true → P a) → (t ≡ false → P b) → P (cond t a b)
-picked P true f g = f refl
-picked P false f g = g refl
-
 -- the new magic samples, each counted twice, fit beside the new filter
 pub magic_fits : (c : Change) → history_needed c.filt_len ≤ c.mem_alloc_size → c.old_alloc_size ≤ c.mem_alloc_size
     → 0 < c.filt_len → (c.started ≡ 0 → c.magic_samples ≡ 0)
@@ -81,13 +76,13 @@ magic_fits c h k some none filled =
     let n = c.filt_len in
     let m = c.magic_samples in
     let Fits : ℕ → Type 0 = λ x. history_needed (n + 2 * x) ≤ c.mem_alloc_size in
-    picked Fits (eqb c.started 0)
+    cond_both (eqb c.started 0) _ _ Fits
     (λ e. let z = none (eqb-true c.started 0 e) in omega arith)
     (λ e.
     let p = filled (eqb-false c.started 0 e) in
-    picked Fits (ltb old n)
-    (λ u. picked Fits (ltb (old + 2 * m) n) (λ v. omega arith) (λ v. omega (arith, ltb-false (old + 2 * m) n v)))
-    (λ u. picked Fits (ltb n old) (λ v. omega (arith, ltb-true n old v)) (λ v. omega (arith, ltb-false old n u, ltb-false n old v))))
+    cond_both (ltb old n) _ _ Fits
+    (λ u. cond_both (ltb (old + 2 * m) n) _ _ Fits (λ v. omega arith) (λ v. omega (arith, ltb-false (old + 2 * m) n v)))
+    (λ u. cond_both (ltb n old) _ _ Fits (λ v. omega (arith, ltb-true n old v)) (λ v. omega (arith, ltb-false old n u, ltb-false n old v))))
 
 -- what a change of rate asks for
 pub record RateReady (row : QualityMapping) (s : ResamplerState) (source mem coefs : ℕ) : Type 0 where
@@ -100,7 +95,7 @@ pub record RateReady (row : QualityMapping) (s : ResamplerState) (source mem coe
   pub magic_to : history_needed ((setting_of row source s.target).filt_len + 2 * reshaped_magic (change_of s (setting_of row source s.target)))
       ≤ history_after s (setting_of row source s.target)
 
-pub rate_ready : (row : QualityMapping) → Sane row → (s : ResamplerState) (source mem coefs : ℕ) → rate_verdict row s source mem coefs ≡ Accept
+pub rate_ready : (row : QualityMapping) → Sane row → (s : ResamplerState) (source mem coefs : ℕ) → rate_verdict row s source mem coefs ≡ accept
     → (s.source ≡ source → ⊥) → RateReady row s source mem coefs
 rate_ready row sane s source mem coefs e other =
     let v = rate_accepts row s source mem coefs e in

@@ -4,17 +4,17 @@
 // Calls as long as the longest are judged here and not made: no judge looks at a sample.
 use crate::rated::process_verdict;
 use crate::text;
-use judge::Verdict;
+use judge::Refusal;
 use quality::QualityMapping;
 use recording::Total;
 use resampler::Consumed;
 use state::ResamplerState;
 
 // Whether a verdict is what a line answers: the first letter of a word, and a number.
-fn is_verdict(verdict: Verdict, letter: u8, number: u64) -> bool {
+fn is_verdict(verdict: Result<(), Refusal>, letter: u8, number: u64) -> bool {
     match verdict {
-        Verdict::Refuse(refusal) => (letter == b'r') & (refusal.number() as u64 == number),
-        Verdict::Accept => (letter == b'a') & (number == 0),
+        Ok(()) => (letter == b'a') & (number == 0),
+        Err(refusal) => (letter == b'r') & (refusal.number() as u64 == number),
     }
 }
 
@@ -28,7 +28,7 @@ fn is_total(total: Total, letter: u8, number: u64) -> bool {
 }
 
 // Whether a rate is set on a new state, with a history and coefficients of these lengths.
-fn rate_verdict(source: u32, target: u32, mem_len: usize, coefs_len: usize) -> Verdict {
+fn rate_verdict(source: u32, target: u32, mem_len: usize, coefs_len: usize) -> Result<(), Refusal> {
     let state = ResamplerState::fresh(target);
     judge::judge_rate(QualityMapping::house(), state, source, mem_len, coefs_len)
 }
