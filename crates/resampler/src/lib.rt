@@ -4,6 +4,8 @@
 // counts of zero and the state as it was given, and its slices keep their contents. The state is a
 // plain struct that goes in by value and comes back in the answer; the history and the coefficients
 // are lent. How near the outputs come to the signal is not said: each is its definition's f32.
+//
+// State and slices are no one struct: C lends the slices anew at each call (`marshdeck_process`).
 #![tactic(auto)]
 
 ghost use Rattle.std.specs.Prelude.{◌≡◌};
