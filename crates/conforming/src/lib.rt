@@ -13,55 +13,51 @@ ghost use Rattle.conformed.specs.Program.{OfAHeader};
 ghost use Rattle.conforming.specs.Endings.{Ends};
 
 use judge::Refusal;
-use pcm::Header;
 use std::io::{Read, Write};
 
 mod copying;
 mod files;
 mod resampling;
 
-// How a run ended. Refused: its line is all that was written. A read or a write that failed is told on
-// standard error; what was written before it stands.
+pub use files::{Cut, read_full};
+
+// Why a run stopped before the end of its file. Refused: its line is all that was written. A read or a
+// write that failed is told on standard error; what was written before it stands.
 #[derive(Clone, Copy)]
-pub enum Ending {
-    Conformed,
+pub enum Stopped {
     Refused(Refusal),
     ReadFailed,
     WriteFailed,
 }
 
 // Conforms the file that `input` reads, onto `output`. Standard error is the runtime's.
-pub fn run<R: Read, W: Write>(rt: &impl Eprint, input: &mut R, output: &mut W) -> Ending
+pub fn run<R: Read, W: Write>(
+    rt: &impl Eprint,
+    input: &mut R,
+    output: &mut W,
+) -> Result<(), Stopped>
     ensures { Ends result }
 {
     let mut head = [0u8; 13];
-    let got = files::read_full(rt, input, &mut head);
-    if got.failed {
-        return Ending::ReadFailed;
-    }
-    let count = got.count;
-    let header = pcm::read_header(&head[..count]);
-    match header {
-        Header::Refused(refusal) => refuse(rt, output, refusal),
-        Header::Rates(source, target) => {
-            if source == target {
+    let count = read_full(input, &mut head).map_err(|cut| files::cannot_read(rt, cut.error))?;
+    match pcm::read_header(&head[..count]) {
+        Err(refusal) => refuse(rt, output, refusal),
+        Ok(rates) => {
+            if rates.source == rates.target {
                 return copying::copy(rt, input, output);
             }
-            resampling::resample(rt, input, output, source, target)
+            resampling::resample(rt, input, output, rates)
         }
     }
 }
 
 // Writes the line of a refusal, and nothing else.
-fn refuse<W: Write>(rt: &impl Eprint, output: &mut W, refusal: Refusal) -> Ending
+fn refuse<W: Write>(rt: &impl Eprint, output: &mut W, refusal: Refusal) -> Result<(), Stopped>
     requires { OfAHeader refusal }
     ensures { Ends result }
 {
-    let line = refusal_line(refusal);
-    if files::write_first(rt, output, &line, 10) {
-        return Ending::Refused(refusal);
-    }
-    Ending::WriteFailed
+    files::write(rt, output, &refusal_line(refusal))?;
+    Err(Stopped::Refused(refusal))
 }
 
 // `refused N` and the line's end.
