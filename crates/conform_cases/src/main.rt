@@ -2,20 +2,17 @@
 // give, both under data/. Writes the name of each input that gave something else, and then the totals.
 #![tactic(auto)]
 
-ghost use Rattle.std.specs.Prelude.{◌≤◌, length};
-
 use conforming::Stopped;
 use std::env::FillError;
 use std::io::Read;
 use std::rt::{Env, Files};
 use std::{fs, str};
 
-// The bytes of a file that come next, put at the start of the block: how many they are. A file whose
-// reading fails ends there.
-fn read_block<R: Read>(file: &mut R, block: &mut [u8]) -> usize
-    ensures { result ≤ length block.new }
-{
-    conforming::read_full(file, block).unwrap_or_else(|cut| cut.count)
+// The bytes of a file that come next, as many as there is room for. A file whose reading fails ends
+// there.
+fn read_block<'a, R: Read>(file: &mut R, room: &'a mut [u8]) -> &'a [u8] {
+    let n = conforming::read_full(file, room).unwrap_or_else(|cut| cut.count);
+    &room[..n]
 }
 
 // Compares a block of each of two files. None where the blocks are the same and more may follow, else
@@ -23,10 +20,14 @@ fn read_block<R: Read>(file: &mut R, block: &mut [u8]) -> usize
 fn compare_some<R: Read>(a: &mut R, b: &mut R) -> Option<bool> {
     let mut xs = [0u8; 4096];
     let mut ys = [0u8; 4096];
-    let m = read_block(a, &mut xs);
-    let n = read_block(b, &mut ys);
-    let same = &xs[..m] == &ys[..n];
-    if same && m == 4096 { None } else { Some(same) }
+    let x = read_block(a, &mut xs);
+    let y = read_block(b, &mut ys);
+    let same = x == y;
+    if same && x.len() == 4096 {
+        None
+    } else {
+        Some(same)
+    }
 }
 
 fn same_files<R: Read>(a: &mut R, b: &mut R) -> bool {

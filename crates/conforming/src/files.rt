@@ -1,7 +1,7 @@
 // Reading and writing, with a line on standard error where the system refuses. No contract can say which
 // bytes a file gives or takes; these say how many there can be.
-ghost use Rattle.std.specs.Prelude.{◌≤◌, length, IfOk, MatchResult};
-ghost use Rattle.conforming.specs.Endings.{Ends, Stops};
+ghost use Rattle.std.specs.Prelude.{◌≡◌, ◌≤◌, length, IfOk, MatchResult};
+ghost use Rattle.conforming.specs.Endings.{Ends};
 
 use crate::Stopped;
 use std::io;
@@ -19,6 +19,7 @@ pub fn read_full<R: Read>(input: &mut R, bytes: &mut [u8]) -> Result<usize, Cut>
     ensures { MatchResult result (λ count. count ≤ length bytes.new) (λ cut. cut.count ≤ length bytes.new) }
 {
     let mut count = 0;
+    // A turn brings as many bytes as the system gives, so no `for` counts them.
     while count < bytes.len() {
         match input.read(&mut bytes[count..]) {
             Ok(0) => break,
@@ -29,37 +30,52 @@ pub fn read_full<R: Read>(input: &mut R, bytes: &mut [u8]) -> Result<usize, Cut>
     Ok(count)
 }
 
-// One read, which may bring fewer bytes than there is room for. None is the end of the input.
-pub fn read_some<R: Read>(
-    rt: &impl Eprint,
-    input: &mut R,
-    part: &mut [u8],
-) -> Result<usize, Stopped>
-    ensures bound { IfOk result (λ count. count ≤ length part.old) }
-    ensures ends { Ends result }
-{
-    input.read(part).map_err(|e| cannot_read(rt, e))
+// Where a run reads and writes, and the runtime on whose standard error it tells what failed.
+#[derive(Drop)]
+pub struct Streams<'e, 'i, 'o, E, R, W> {
+    pub rt: &'e E,
+    pub input: &'i mut R,
+    pub output: &'o mut W,
 }
 
-// Writes all of these bytes.
-pub fn write<W: Write>(rt: &impl Eprint, output: &mut W, bytes: &[u8]) -> Result<(), Stopped>
-    ensures { Ends result }
-{
-    output.write_all(bytes).map_err(|e| cannot_write(rt, e))
+impl<E: Eprint, R: Read, W: Write> Streams<'_, '_, '_, E, R, W> {
+    // Reads until the bytes are full or the input ends.
+    pub fn read_full(&mut self, bytes: &mut [u8]) -> Result<usize, Stopped>
+        ensures bound { IfOk result (λ count. count ≤ length bytes.new) }
+        ensures ends { Ends result }
+    {
+        read_full(self.input, bytes).map_err(|cut| stop(
+            self.rt,
+            Stopped::ReadFailed,
+            "read",
+            cut.error,
+        ))
+    }
+
+    // One read, which may bring fewer bytes than there is room for. None is the end of the input.
+    pub fn read(&mut self, part: &mut [u8]) -> Result<usize, Stopped>
+        ensures bound { IfOk result (λ count. count ≤ length part.old) }
+        ensures ends { Ends result }
+    {
+        self.input
+            .read(part)
+            .map_err(|e| stop(self.rt, Stopped::ReadFailed, "read", e))
+    }
+
+    // Writes all of these bytes.
+    pub fn write(&mut self, bytes: &[u8]) -> Result<(), Stopped>
+        ensures { Ends result }
+    {
+        self.output
+            .write_all(bytes)
+            .map_err(|e| stop(self.rt, Stopped::WriteFailed, "write", e))
+    }
 }
 
-// Tells that the system refused a read.
-pub fn cannot_read(rt: &impl Eprint, e: io::Error) -> Stopped
-    ensures { Stops result }
+// Tells what the system refused and in which words, and stops the run.
+fn stop(rt: &impl Eprint, stopped: Stopped, what: &str, e: io::Error) -> Stopped
+    ensures { result ≡ stopped }
 {
-    let _ = eprintln!(rt; "conform: cannot read: {e}");
-    Stopped::ReadFailed
-}
-
-// Tells that the system refused a write.
-fn cannot_write(rt: &impl Eprint, e: io::Error) -> Stopped
-    ensures { Stops result }
-{
-    let _ = eprintln!(rt; "conform: cannot write: {e}");
-    Stopped::WriteFailed
+    let _ = eprintln!(rt; "conform: cannot {what}: {e}");
+    stopped
 }

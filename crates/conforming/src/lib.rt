@@ -12,6 +12,7 @@ ghost use Rattle.conformed.specs.Conformed.{refusal_line};
 ghost use Rattle.conformed.specs.Program.{OfAHeader};
 ghost use Rattle.conforming.specs.Endings.{Ends};
 
+use crate::files::Streams;
 use judge::Refusal;
 use std::io::{Read, Write};
 
@@ -38,25 +39,29 @@ pub fn run<R: Read, W: Write>(
 ) -> Result<(), Stopped>
     ensures { Ends result }
 {
+    let mut streams = Streams { rt, input, output };
     let mut head = [0u8; 13];
-    let count = read_full(input, &mut head).map_err(|cut| files::cannot_read(rt, cut.error))?;
+    let count = streams.read_full(&mut head)?;
     match pcm::read_header(&head[..count]) {
-        Err(refusal) => refuse(rt, output, refusal),
+        Err(refusal) => refuse(&mut streams, refusal),
         Ok(rates) => {
             if rates.source == rates.target {
-                return copying::copy(rt, input, output);
+                return copying::copy(&mut streams);
             }
-            resampling::resample(rt, input, output, rates)
+            resampling::resample(&mut streams, rates)
         }
     }
 }
 
 // Writes the line of a refusal, and nothing else.
-fn refuse<W: Write>(rt: &impl Eprint, output: &mut W, refusal: Refusal) -> Result<(), Stopped>
+fn refuse<E: Eprint, R: Read, W: Write>(
+    streams: &mut Streams<E, R, W>,
+    refusal: Refusal,
+) -> Result<(), Stopped>
     requires { OfAHeader refusal }
     ensures { Ends result }
 {
-    files::write(rt, output, &refusal_line(refusal))?;
+    streams.write(&refusal_line(refusal))?;
     Err(Stopped::Refused(refusal))
 }
 

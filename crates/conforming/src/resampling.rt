@@ -4,7 +4,8 @@ ghost use Rattle.std.specs.Prelude.{◌≤◌};
 ghost use Rattle.sizes.specs.Sizes.{InLimits};
 ghost use Rattle.conforming.specs.Endings.{Ends};
 
-use crate::{Stopped, files};
+use crate::Stopped;
+use crate::files::Streams;
 use pcm::Rates;
 use resampler::ResamplerState;
 use stages::Kept;
@@ -50,11 +51,9 @@ impl Desk {
 
     // Reads once behind the byte held, and writes what the whole samples lead to. Answers how many bytes
     // the read brought.
-    fn feed<R: Read, W: Write>(
+    fn feed<E: Eprint, R: Read, W: Write>(
         &mut self,
-        rt: &impl Eprint,
-        input: &mut R,
-        output: &mut W,
+        streams: &mut Streams<E, R, W>,
         kept: &mut Kept,
     ) -> Result<usize, Stopped>
         requires { kept.old.held ≤ 1 }
@@ -63,7 +62,7 @@ impl Desk {
     {
         let held = kept.held;
         let bytes = &mut self.bytes[..];
-        let count = files::read_some(rt, input, &mut bytes[held..])?;
+        let count = streams.read(&mut bytes[held..])?;
         if count == 0 {
             return Ok(0);
         }
@@ -76,16 +75,15 @@ impl Desk {
             &mut self.out,
             &mut self.text,
         );
-        files::write(rt, output, &self.text[..size])?;
+        streams.write(&self.text[..size])?;
         Ok(count)
     }
 
     // Where all was read, the zeros that close a recording go through, if any sample came. An odd byte
     // that is still held is dropped.
-    fn close<W: Write>(
+    fn close<E: Eprint, R: Read, W: Write>(
         &mut self,
-        rt: &impl Eprint,
-        output: &mut W,
+        streams: &mut Streams<E, R, W>,
         kept: Kept,
         filt_len: u32,
     ) -> Result<(), Stopped>
@@ -101,16 +99,14 @@ impl Desk {
             &mut self.out,
             &mut self.text,
         );
-        files::write(rt, output, &self.text[..closed.size])
+        streams.write(&self.text[..closed.size])
     }
 }
 
 // The room, the first rate, the reads, and then the zeros. The turns are counted, as where bytes are
 // copied.
-pub fn resample<R: Read, W: Write>(
-    rt: &impl Eprint,
-    input: &mut R,
-    output: &mut W,
+pub fn resample<E: Eprint, R: Read, W: Write>(
+    streams: &mut Streams<E, R, W>,
     rates: Rates,
 ) -> Result<(), Stopped>
     requires { InLimits rates.source × InLimits rates.target }
@@ -132,8 +128,8 @@ pub fn resample<R: Read, W: Write>(
         came: false,
     };
     for _ in 0..u64::MAX {
-        if desk.feed(rt, input, output, &mut kept)? == 0 {
-            return desk.close(rt, output, kept, filt_len);
+        if desk.feed(streams, &mut kept)? == 0 {
+            return desk.close(streams, kept, filt_len);
         }
     }
     Ok(())

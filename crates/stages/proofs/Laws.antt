@@ -1,13 +1,13 @@
 -- What a block leaves, from what each of its steps ensures. Assumes nothing.
 use mathlib.Core.Path.{◌≡◌, sym, ◌∙◌, ap}
 use mathlib.Core.Bool.{Bool, ◌||◌}
-use mathlib.Core.List.{List, ◌++◌}
+use mathlib.Core.List.{List}
 use Prim.Native.Nat.{ℕ, ◌*◌, ◌/◌, ◌%◌, ◌≤◌}
 use native.Mathlib.Omega.{arith}
 use lib.Dec.{ltb}
 use lib.Ieee.{Float}
 use lib.ListN.{length, take, drop, replicate, length-take, length-drop, length-replicate, take-append-drop}
-use lib.Seq.{take_all, length-paste, take-take, take-append_seam}
+use lib.Seq.{take_all, length-paste, take-append_seam}
 use Rattle.math.specs.Numerals.{nought}
 use Rattle.history.specs.Zeroed.{zeroed}
 use Rattle.timeline.proofs.Parts.{take_front}

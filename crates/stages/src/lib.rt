@@ -58,6 +58,7 @@ fn written_of(answer: Answer) -> u64
 
 // One call of the resampler, and its outputs as bytes at the start of `text`. An empty input is
 // refused, which changes nothing and hands nothing on.
+// The slices are no struct: `Pulls` holds at slices of any length, where a struct's arrays have one each.
 pub fn pull(
     state: ResamplerState,
     mem: &mut [f32],

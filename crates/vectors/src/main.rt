@@ -10,7 +10,7 @@ mod limits;
 mod rated;
 mod text;
 
-ghost use Rattle.std.specs.Prelude.{◌<◌, ◌≤◌, length};
+ghost use Rattle.std.specs.Prelude.{◌<◌};
 
 use std::fs;
 use std::rt::Files;
@@ -54,27 +54,26 @@ fn print_totals(rt: &impl Print, name: &str, n: usize, width: usize, wrong: usiz
     let _ = println!(rt; "{name}: {tried} tried{part}, {wrong} wrong");
 }
 
-// The bytes of a file, put at the start of the text; how many they are. One that is missing has none,
-// and one whose reading fails ends there.
-fn read_file(rt: &impl Files, name: &str, text: &mut [u8]) -> usize
-    ensures { result ≤ length text.new }
-{
-    match fs::open(rt, name) {
-        Ok(mut file) => conforming::read_full(&mut file, text).unwrap_or_else(|cut| cut.count),
-        Err(_) => 0,
-    }
+// The bytes of a file, read into this room. One that is missing has none, and one whose reading fails
+// ends there.
+fn read_file<'a>(rt: &impl Files, name: &str, room: &'a mut [u8]) -> &'a [u8] {
+    let Ok(mut file) = fs::open(rt, name) else {
+        return &[];
+    };
+    let n = conforming::read_full(&mut file, room).unwrap_or_else(|cut| cut.count);
+    &room[..n]
 }
 
-// Tries a file whose lines all have this width. One that is missing has no lines. The text has room for
-// more bytes than any of the files has.
+// Tries a file whose lines all have this width. One that is missing has no lines. The room is for more
+// bytes than any of the files has.
 fn try_file<F: Fn(&[u8]) -> bool>(rt: &(impl Files + Print), name: &str, width: usize, is_right: F)
     requires width { 0 < width }
     requires right { F.IsAlwaysCallable is_right }
 {
-    let mut text = [0; 98304];
-    let n = read_file(rt, name, &mut text);
-    let wrong = count_wrong(rt, &text[..n], width, is_right);
-    print_totals(rt, name, n, width, wrong);
+    let mut room = [0; 98304];
+    let text = read_file(rt, name, &mut room);
+    let wrong = count_wrong(rt, text, width, is_right);
+    print_totals(rt, name, text.len(), width, wrong);
 }
 
 // Whether the sample of this word does not come back as it was.

@@ -1,5 +1,5 @@
 -- `pcm::samples::encode` meets its contract (`proofs/Laid.antt`). Assumes nothing.
-use mathlib.Core.Path.{◌≡◌, ap, sym, ◌∙◌}
+use mathlib.Core.Path.{◌≡◌, ap, ◌∙◌}
 use mathlib.Core.List.{List}
 use Prim.Native.Nat.{ℕ, ◌*◌, ◌/◌, ◌%◌}
 use native.Mathlib.Omega.{arith}
@@ -8,7 +8,7 @@ use mir.Syntax.{w16}
 use mir.ValLaws.{to_z-of_z}
 use Rattle.history.proofs.Pasted.{ends}
 use Rattle.sixteen.specs.Sixteen.{word_of}
-use Rattle.pcm.specs.Blocks.{bytes_of, low_of, high_of}
+use Rattle.pcm.specs.Blocks.{bytes_of}
 use Rattle.pcm.proofs.Laid.{two_more, encodes}
 use Rattle.pcm.proofs.samples.encode.Goals as goal
 
