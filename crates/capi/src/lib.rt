@@ -19,7 +19,7 @@ ghost use Rattle.capi.specs.Promises.{FlatSetsRate, FlatProcesses, FlatResets, n
 use flat::{FlatAnswer, FlatSizes, FlatState, FlatTotal};
 use quality::QualityMapping;
 use rates::Setting;
-use resampler::Consumed;
+use resampler::{Consumed, ResamplerState};
 
 // A new state.
 pub fn marshdeck_new(target_hz: u32) -> FlatAnswer
@@ -37,10 +37,10 @@ pub fn marshdeck_set_rate(
 ) -> FlatAnswer
     ensures { FlatSetsRate state source_hz mem.old coefs.old result mem.new coefs.new }
 {
-    if !flat::is_state(state) {
+    let Ok(state) = ResamplerState::try_from(state) else {
         return flat::no_state(state);
-    }
-    flat::flat_answer(resampler::source_hz(flat::state_of(state), source_hz, mem, coefs))
+    };
+    flat::flat_answer(resampler::source_hz(state, source_hz, mem, coefs))
 }
 
 // Resamples.
@@ -53,30 +53,30 @@ pub fn marshdeck_process(
 ) -> FlatAnswer
     ensures { FlatProcesses state mem.old coefs.now input.now out.old result mem.new out.new }
 {
-    if !flat::is_state(state) {
+    let Ok(state) = ResamplerState::try_from(state) else {
         return flat::no_state(state);
-    }
-    flat::flat_answer(resampler::process_float(flat::state_of(state), mem, coefs, input, out))
+    };
+    flat::flat_answer(resampler::process_float(state, mem, coefs, input, out))
 }
 
 // Makes the state ready for another stream at the same rate.
 pub fn marshdeck_reset(state: FlatState, mem: &mut [f32]) -> FlatAnswer
     ensures { FlatResets state mem.old result mem.new }
 {
-    if !flat::is_state(state) {
+    let Ok(state) = ResamplerState::try_from(state) else {
         return flat::no_state(state);
-    }
-    flat::flat_answer(resampler::reset_mem(flat::state_of(state), mem))
+    };
+    flat::flat_answer(resampler::reset_mem(state, mem))
 }
 
 // Leaves out the filter's run-in.
 pub fn marshdeck_skip(state: FlatState) -> FlatAnswer
     ensures { result ≡ flat_call state (λ s. skip_told house s) }
 {
-    if !flat::is_state(state) {
+    let Ok(state) = ResamplerState::try_from(state) else {
         return flat::no_state(state);
-    }
-    flat::flat_answer(resampler::skip_zeros(flat::state_of(state)))
+    };
+    flat::flat_answer(resampler::skip_zeros(state))
 }
 
 // An f32 as a 16-bit sample.
@@ -104,7 +104,7 @@ pub fn marshdeck_sine(angle: f64) -> f64
 pub fn marshdeck_closed_total(m: u64, source_hz: u32, target_hz: u32) -> FlatTotal
     ensures { result ≡ flat_total (closed_total_told source_hz target_hz m) }
 {
-    flat::flat_total(recording::closed_total(Consumed(m), source_hz, target_hz))
+    recording::closed_total(Consumed(m), source_hz, target_hz).into()
 }
 
 // How long a history two rates need for a new state, and how many coefficients they have, so that a
@@ -112,10 +112,7 @@ pub fn marshdeck_closed_total(m: u64, source_hz: u32, target_hz: u32) -> FlatTot
 pub fn marshdeck_needed(source_hz: u32, target_hz: u32) -> FlatSizes
     ensures { result ≡ needed_sizes source_hz target_hz }
 {
-    if !sizes::in_limits(source_hz) {
-        return flat::no_sizes();
-    }
-    if !sizes::in_limits(target_hz) {
+    if !sizes::in_limits(source_hz) || !sizes::in_limits(target_hz) {
         return flat::no_sizes();
     }
     let setting = Setting::new(QualityMapping::house(), source_hz, target_hz);

@@ -4,7 +4,7 @@
 // A flat state may hold any numbers. A kernel above 2 is the one thing in it that no state can hold.
 #![tactic(auto)]
 
-ghost use Rattle.std.specs.Prelude.{◌≡◌, ◌≤◌};
+ghost use Rattle.std.specs.Prelude.{◌≡◌, ◌≤◌, IsTrue, OkIff};
 ghost use Rattle.judge.specs.Refusals.{max_call};
 ghost use Rattle.resampler.specs.Answers.{told};
 ghost use Rattle.recording.specs.Totals.{total_told};
@@ -12,17 +12,16 @@ ghost use Rattle.flat.specs.Flat.{kernel_at, flat_of, state_of, is_state, flat_t
 
 use judge::Refusal;
 use rates::Kernel;
-use recording::Total;
-use resampler::Answer;
+use recording::TotalError;
+use resampler::{Answer, Written};
 use state::ResamplerState;
-
-// The highest number that a kernel has.
-const LAST_KERNEL: u32 = 2;
 
 // What more samples than `closed_total` takes get. Document 01 has no number for it, so this one is far from
 // those that it has.
 const TOO_MANY: u32 = 100;
 
+// The four structs that cross, here to `FlatSizes`, are C's (`include/marshdeck.h`), with `refusal` a number.
+//
 // A state, field by field; the kernel is 0 for none, 1 direct, 2 interpolated.
 #[repr(C)]
 #[derive(Clone, Copy)]
@@ -72,72 +71,73 @@ pub struct FlatSizes {
     pub coefficients: u32,
 }
 
-// Whether some state has these numbers.
-pub fn is_state(flat: FlatState) -> bool
-    ensures { result ≡ is_state flat }
-{
-    flat.kernel <= LAST_KERNEL
-}
+// That no state has these numbers: no kernel has the number that stands for one among them.
+#[derive(Clone, Copy, PartialEq, Eq)]
+pub struct NoState;
 
-// The kernel with this number; one above 2 is not asked for.
-fn kernel_at(number: u32) -> Kernel
-    ensures { result ≡ kernel_at number }
+// The kernel with this number; none has one above 2.
+fn kernel_at(number: u32) -> Result<Kernel, NoState>
+    ensures { OkIff result (number ≤ 2) (kernel_at number) }
 {
-    if number == 0 {
-        return Kernel::Unset;
+    match number {
+        0 => Ok(Kernel::Unset),
+        1 => Ok(Kernel::Direct),
+        2 => Ok(Kernel::Interpolated),
+        _ => Err(NoState),
     }
-    if number == 1 {
-        return Kernel::Direct;
-    }
-    Kernel::Interpolated
 }
 
 // The state with these numbers.
-pub fn state_of(flat: FlatState) -> ResamplerState
-    ensures { result ≡ state_of flat }
-{
-    ResamplerState {
-        target: flat.target,
-        source: flat.source,
-        num: flat.num,
-        den: flat.den,
-        filt_len: flat.filt_len,
-        mem_alloc_size: flat.mem_alloc_size,
-        buffer_size: flat.buffer_size,
-        int_advance: flat.int_advance,
-        frac_advance: flat.frac_advance,
-        cutoff: flat.cutoff,
-        oversample: flat.oversample,
-        started: flat.started,
-        kernel: kernel_at(flat.kernel),
-        last_sample: flat.last_sample,
-        samp_frac_num: flat.samp_frac_num,
-        magic_samples: flat.magic_samples,
+impl TryFrom<FlatState> for ResamplerState {
+    type Error = NoState;
+
+    ghost try_from_gives = { λ flat result. OkIff result (IsTrue (is_state flat)) (state_of flat) };
+
+    fn try_from(flat: FlatState) -> Result<ResamplerState, NoState> {
+        Ok(ResamplerState {
+            target: flat.target,
+            source: flat.source,
+            num: flat.num,
+            den: flat.den,
+            filt_len: flat.filt_len,
+            mem_alloc_size: flat.mem_alloc_size,
+            buffer_size: flat.buffer_size,
+            int_advance: flat.int_advance,
+            frac_advance: flat.frac_advance,
+            cutoff: flat.cutoff,
+            oversample: flat.oversample,
+            started: flat.started,
+            kernel: kernel_at(flat.kernel)?,
+            last_sample: flat.last_sample,
+            samp_frac_num: flat.samp_frac_num,
+            magic_samples: flat.magic_samples,
+        })
     }
 }
 
 // The numbers of a state.
-fn flat_of(state: ResamplerState) -> FlatState
-    ensures { result ≡ flat_of state }
-{
-    let kernel = state.kernel;
-    FlatState {
-        target: state.target,
-        source: state.source,
-        num: state.num,
-        den: state.den,
-        filt_len: state.filt_len,
-        mem_alloc_size: state.mem_alloc_size,
-        buffer_size: state.buffer_size,
-        int_advance: state.int_advance,
-        frac_advance: state.frac_advance,
-        cutoff: state.cutoff,
-        oversample: state.oversample,
-        started: state.started,
-        kernel: state::kernel_number(kernel),
-        last_sample: state.last_sample,
-        samp_frac_num: state.samp_frac_num,
-        magic_samples: state.magic_samples,
+impl From<ResamplerState> for FlatState {
+    ghost from_gives = { λ state flat. flat ≡ flat_of state };
+
+    fn from(state: ResamplerState) -> FlatState {
+        FlatState {
+            target: state.target,
+            source: state.source,
+            num: state.num,
+            den: state.den,
+            filt_len: state.filt_len,
+            mem_alloc_size: state.mem_alloc_size,
+            buffer_size: state.buffer_size,
+            int_advance: state.int_advance,
+            frac_advance: state.frac_advance,
+            cutoff: state.cutoff,
+            oversample: state.oversample,
+            started: state.started,
+            kernel: state::kernel_number(state.kernel),
+            last_sample: state.last_sample,
+            samp_frac_num: state.samp_frac_num,
+            magic_samples: state.magic_samples,
+        }
     }
 }
 
@@ -164,35 +164,37 @@ pub fn flat_answer(answer: Answer) -> FlatAnswer
                 refusal: refusal.number(),
                 consumed: 0,
                 written: 0,
-                state: flat_of(state),
+                state: state.into(),
             }
         }
         Answer::Accepted(state, consumed, written) => FlatAnswer {
             refusal: 0,
             consumed: consumed.0 as u32,
             written: written.0 as u32,
-            state: flat_of(state),
+            state: state.into(),
         },
     }
 }
 
 // What a total tells.
-pub fn flat_total(total: Total) -> FlatTotal
-    ensures { result ≡ flat_total (total_told total) }
-{
-    match total {
-        Total::Refused(refusal) => FlatTotal {
-            refusal: refusal.number(),
-            total: 0,
-        },
-        Total::TooMany => FlatTotal {
-            refusal: TOO_MANY,
-            total: 0,
-        },
-        Total::Closed(written) => FlatTotal {
-            refusal: 0,
-            total: written.0,
-        },
+impl From<Result<Written, TotalError>> for FlatTotal {
+    ghost from_gives = { λ total flat. flat ≡ flat_total (total_told total) };
+
+    fn from(total: Result<Written, TotalError>) -> FlatTotal {
+        match total {
+            Ok(written) => FlatTotal {
+                refusal: 0,
+                total: written.0,
+            },
+            Err(TotalError::Refused(refusal)) => FlatTotal {
+                refusal: refusal.number(),
+                total: 0,
+            },
+            Err(TotalError::TooMany) => FlatTotal {
+                refusal: TOO_MANY,
+                total: 0,
+            },
+        }
     }
 }
 

@@ -6,8 +6,8 @@ use crate::rated::process_verdict;
 use crate::text;
 use judge::Verdict;
 use quality::QualityMapping;
-use recording::Total;
-use resampler::Consumed;
+use recording::TotalError;
+use resampler::{Consumed, Written};
 use state::ResamplerState;
 
 // Whether a verdict is what a line answers: the first letter of a word, and a number.
@@ -19,11 +19,13 @@ fn is_verdict(verdict: Verdict, letter: u8, number: u64) -> bool {
 }
 
 // The same of a total.
-fn is_total(total: Total, letter: u8, number: u64) -> bool {
+fn is_total(total: Result<Written, TotalError>, letter: u8, number: u64) -> bool {
     match total {
-        Total::Refused(refusal) => (letter == b'r') & (refusal.number() as u64 == number),
-        Total::TooMany => (letter == b'm') & (number == 0),
-        Total::Closed(written) => (letter == b't') & (written.0 == number),
+        Ok(written) => (letter == b't') & (written.0 == number),
+        Err(TotalError::Refused(refusal)) => {
+            (letter == b'r') & (refusal.number() as u64 == number)
+        }
+        Err(TotalError::TooMany) => (letter == b'm') & (number == 0),
     }
 }
 
