@@ -20,8 +20,8 @@ use state::ResamplerState;
 // those that it has.
 const TOO_MANY: u32 = 100;
 
-// The four structs that cross, here to `FlatSizes`, are C's (`include/marshdeck.h`), with `refusal` a number.
-//
+// The four structs as far as `FlatSizes` are C's, as `include/marshdeck.h` has them: `refusal` stays a number.
+
 // A state, field by field; the kernel is 0 for none, 1 direct, 2 interpolated.
 #[repr(C)]
 #[derive(Clone, Copy)]
@@ -76,6 +76,7 @@ pub struct FlatSizes {
 pub struct NoState;
 
 // The kernel with this number; none has one above 2.
+// No `TryFrom`: an impl for `Kernel` from a `u32` may stand in the crate of `Kernel` alone.
 fn kernel_at(number: u32) -> Result<Kernel, NoState>
     ensures { OkIff result (number ≤ 2) (kernel_at number) }
 {
@@ -154,6 +155,7 @@ pub fn no_state(flat: FlatState) -> FlatAnswer
 }
 
 // What an answer tells. A call reads and writes at most 16,777,216 samples, so no count is cut.
+// No `From`: that both counts fit is asked for, and a `From` asks for nothing.
 pub fn flat_answer(answer: Answer) -> FlatAnswer
     requires { ((told answer).consumed ≤ max_call) × ((told answer).written ≤ max_call) }
     ensures { result ≡ flat_told (told answer) }

@@ -15,7 +15,7 @@ pub returns-then-not-in_limits : goal.returns-then-not-in_limits
 unfolding needed_sizes
 returns-then-not-in_limits c =
     elim c.then-not-in_limits.branch [
-      then-not-in_limits-via-then-not-in_limits w ↦ rw (← c.in_limits.ensures, w.if-not-in_limits.true) c.no_sizes.ensures
+      | then-not-in_limits-via-then-not-in_limits w ↦ rw (← c.in_limits.ensures, w.if-not-in_limits.true) c.no_sizes.ensures
       | then-not-in_limits-via-else-not-in_limits+then-not-in_limits-2 w ↦ rw (← c.in_limits.ensures, w.if-not-in_limits.false, ← w.in_limits-else-not-in_limits.ensures, w.if-not-in_limits-2.true) c.no_sizes.ensures
     ]
 

@@ -11,7 +11,7 @@ pub returns-then-not-in_limits : goal.returns-then-not-in_limits
 unfolding closed_total_told
 returns-then-not-in_limits c =
     elim c.then-not-in_limits.branch [
-      then-not-in_limits-via-then-not-in_limits w ↦ rw (← c.in_limits.ensures, w.if-not-in_limits.true)
+      | then-not-in_limits-via-then-not-in_limits w ↦ rw (← c.in_limits.ensures, w.if-not-in_limits.true)
       | then-not-in_limits-via-else-not-in_limits+then-not-in_limits-2 w ↦ rw (← c.in_limits.ensures, w.if-not-in_limits.false, ← w.in_limits-else-not-in_limits.ensures, w.if-not-in_limits-2.true)
     ]
 
