@@ -1,8 +1,13 @@
 -- `marshdeck_set_rate` counts nothing. Assumes nothing.
+use mathlib.Core.Path.{◌≡◌}
+use Rattle.std.proofs.Common.{rules}
+use Rattle.quality.specs.House.{house}
+use Rattle.resampler.specs.Answers.{told}
+use Rattle.resampler.specs.Entries.{rate_told}
 use Rattle.capi.proofs.Counts.{rate_within}
 use Rattle.capi.proofs.marshdeck_set_rate.Goals as goal
 
-pub flat_answer-requires : goal.flat_answer-requires
-flat_answer-requires c =
-    let a = c.args in
-    rw c.source_hz.ensures.tells (rate_within _ a.source_hz a.mem.now a.coefs.now)
+pub called-requires-clause-fits : goal.called-requires-clause-fits
+called-requires-clause-fits c = λ s after a h.
+    let tells : told a ≡ rate_told house s c.args.source_hz c.args.mem.now c.args.coefs.now = search rules in
+    rw tells (rate_within s c.args.source_hz c.args.mem.now c.args.coefs.now)
