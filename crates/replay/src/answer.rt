@@ -10,7 +10,7 @@ const PRIME: u64 = 4294967291;
 const SHOWN: usize = 4;
 
 // A float as its bits. All NaNs are one.
-#[derive(Clone, Copy, Debug)]
+#[derive(Clone, Copy)]
 struct Pattern(f32);
 
 impl fmt::Display for Pattern {
@@ -20,6 +20,7 @@ impl fmt::Display for Pattern {
     }
 }
 
+// A player shows as the line that answers its last order.
 impl fmt::Display for Player {
     fn fmt<W: fmt::Write>(&self, f: &mut fmt::Formatter<W>) -> fmt::Result {
         let FlatAnswer {
@@ -43,19 +44,11 @@ impl fmt::Display for Player {
 fn write_state<W: fmt::Write>(f: &mut fmt::Formatter<W>, s: FlatState) -> fmt::Result {
     write!(f, " {} {} {} {}", s.target, s.source, s.num, s.den)?;
     write!(f, " {} {} {}", s.filt_len, s.mem_alloc_size, s.buffer_size)?;
-    write!(
-        f,
-        " {} {} {}",
-        s.int_advance,
-        s.frac_advance,
-        Pattern(s.cutoff)
-    )?;
-    write!(f, " {} {} {}", s.oversample, s.started, s.kernel)?;
-    write!(
-        f,
-        " {} {} {}",
-        s.last_sample, s.samp_frac_num, s.magic_samples
-    )
+    write!(f, " {} {}", s.int_advance, s.frac_advance)?;
+    write!(f, " {} {}", Pattern(s.cutoff), s.oversample)?;
+    write!(f, " {} {}", s.started, s.kernel)?;
+    write!(f, " {} {}", s.last_sample, s.samp_frac_num)?;
+    write!(f, " {}", s.magic_samples)
 }
 
 // The sum over a slice's entries.

@@ -18,7 +18,7 @@ pub enum Line {
 }
 
 // What is lent to the calls.
-#[derive(Clone, Copy, Debug, PartialEq, Eq)]
+#[derive(Clone, Copy)]
 pub enum Lent {
     History,
     Coefs,
@@ -176,7 +176,7 @@ fn field<R: Read>(script: &mut Script<R>, state: &mut FlatState) -> Result<(), F
     script.next_word()
 }
 
-// The numbers of a state by the names that an answer's reader gives them.
+// Overwrites the number that a field names.
 fn overwrite(state: &mut FlatState, field: &str, number: u32) -> Result<(), Fault> {
     match field {
         "target" => state.target = number,

@@ -8,7 +8,7 @@ use std::io::Read;
 const NEWLINE: u8 = b'\n';
 
 // Why a run ends before its script does: a line that cannot be played, a read and a write that failed.
-#[derive(Clone, Copy, Debug, PartialEq, Eq)]
+#[derive(Clone, Copy)]
 pub enum Fault {
     BadLine,
     Unreadable,
@@ -58,7 +58,8 @@ impl<R: Read> Script<R> {
         matches!(self.next, None | Some(NEWLINE))
     }
 
-    // To the line's end.
+    // To the line's end. Nothing says that a line ends, so the turns are counted, here and wherever one is read,
+    // up to a number that no run uses up.
     pub fn skip_line(&mut self) -> Result<(), Fault> {
         for _ in 0..u64::MAX {
             if self.at_line_end() {
@@ -154,7 +155,7 @@ impl<R: Read> Script<R> {
         let mut pattern = 0;
         for _ in 0..8 {
             let digit = self.digit(16).ok_or(Fault::BadLine)?;
-            pattern = pattern << 4 | u32::from(digit);
+            pattern = (pattern << 4) | u32::from(digit);
             self.step()?;
         }
         Ok(pattern)

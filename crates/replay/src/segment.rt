@@ -30,7 +30,7 @@ const SPECIALS: [u32; 16] = [
 ];
 
 // What becomes of a segment's seed: each sample is the seed's float, or is drawn from the number that follows.
-#[derive(Clone, Copy, Debug, PartialEq, Eq)]
+#[derive(Clone, Copy)]
 enum Kind {
     Constant,
     Denormal,
@@ -98,7 +98,7 @@ impl Kind {
     fn sample(self, x: u32) -> f32 {
         match self {
             Kind::Constant => bits::float_of(x),
-            Kind::Denormal => bits::float_of(x << 31 | x >> 9),
+            Kind::Denormal => bits::float_of((x << 31) | (x >> 9)),
             Kind::Special if x < 1 << 29 => bits::float_of(SPECIALS[(x >> 25) as usize % 16]),
             Kind::Random | Kind::Special => random(x),
         }
