@@ -15,8 +15,16 @@ mod segment;
 
 use order::Line;
 use player::Player;
-use script::{Fault, Script};
+use script::Script;
 use std::io::Read;
+
+// Why a run ends before its script does: a line that cannot be played, a read or a write that failed.
+#[derive(Clone, Copy)]
+pub enum Fault {
+    BadLine,
+    Unreadable,
+    Unwritable,
+}
 
 // Nothing says that a script ends, so its lines are counted, up to a number that no run uses up.
 fn main(rt: HostRuntime) {
@@ -53,7 +61,8 @@ fn turn<R: Read>(
     }
 }
 
-// Says why a run ends before its script does. Where not even that can be written there is nothing left to do.
+// Says why a run ends before its script does. Where not even that can be written there is nothing left to
+// do.
 fn report(rt: &(impl Print + Eprint), line: u64, fault: Fault) {
     let _ = match fault {
         Fault::BadLine => println!(rt; "bad line {line}"),

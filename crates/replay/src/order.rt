@@ -3,9 +3,9 @@
 // The samples that a line names are laid into the player's input while they are read. Should the line turn
 // out bad, nothing is played after it.
 use crate::player::Player;
-use crate::script::{Fault, Script};
-use crate::segment;
+use crate::script::Script;
 use crate::segment::Samples;
+use crate::{Fault, segment};
 use flat::FlatState;
 use std::io::Read;
 

@@ -1,9 +1,10 @@
 // Plays an order: one call of the resampler, as a program in C makes it, or a change to what is lent to it.
 //
-// The state is the flat one, so that a script can give it any numbers at all, also a kernel that there is none of.
+// The state is the flat one, so that a script can give it any numbers at all, also a kernel that there is
+// none of.
 use crate::order::{Lent, Order};
-use crate::script::Fault;
 use crate::segment::Samples;
+use crate::{Fault, segment};
 use arrayvec::ArrayVec;
 use flat::{FlatAnswer, FlatState};
 
@@ -139,7 +140,7 @@ fn resize<const N: usize>(
 ) -> Result<(), Fault> {
     entries.truncate(len as usize);
     for _ in entries.len()..len as usize {
-        entries.try_push(filler).map_err(|_| Fault::BadLine)?;
+        segment::push(entries, filler)?;
     }
     Ok(())
 }

@@ -2,18 +2,11 @@
 //
 // One byte is read at a time, so that nothing but the byte that comes next has to be kept and a line may be
 // of any length. Each reader starts at its first byte and stops at the byte that comes after it.
+use crate::Fault;
 use arrayvec::ArrayString;
 use std::io::Read;
 
 const NEWLINE: u8 = b'\n';
-
-// Why a run ends before its script does: a line that cannot be played, a read and a write that failed.
-#[derive(Clone, Copy)]
-pub enum Fault {
-    BadLine,
-    Unreadable,
-    Unwritable,
-}
 
 // A name, of at most ten letters: as many as the longest has.
 pub type Name = ArrayString<10>;

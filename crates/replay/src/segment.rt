@@ -1,5 +1,6 @@
 // The samples that a line names, segment by segment.
-use crate::script::{Fault, Script};
+use crate::Fault;
+use crate::script::Script;
 use arrayvec::ArrayVec;
 use std::io::Read;
 
@@ -29,7 +30,8 @@ const SPECIALS: [u32; 16] = [
     0x0000_0000,
 ];
 
-// What becomes of a segment's seed: each sample is the seed's float, or is drawn from the number that follows.
+// What becomes of a segment's seed: each sample is the seed's float, or is drawn from the numbers that follow
+// the seed.
 #[derive(Clone, Copy)]
 enum Kind {
     Constant,
@@ -38,8 +40,8 @@ enum Kind {
     Special,
 }
 
-// Reads one segment and on to the next word, and puts its samples behind those that are there. Where there is no room
-// for all of them the line cannot be played.
+// Reads one segment and on to the next word, and puts its samples behind those that are there. Where there is
+// no room for all of them the line cannot be played.
 pub fn read<R: Read>(script: &mut Script<R>, samples: &mut Samples) -> Result<(), Fault> {
     let letter = script.take()?;
     script.expect_byte(b':')?;
@@ -80,9 +82,9 @@ fn made<R: Read>(kind: Kind, script: &mut Script<R>, samples: &mut Samples) -> R
     Ok(())
 }
 
-// One sample more.
-pub fn push(samples: &mut Samples, sample: f32) -> Result<(), Fault> {
-    samples.try_push(sample).map_err(|_| Fault::BadLine)
+// One entry more. Where there is no room for it the line cannot be played.
+pub fn push<const N: usize>(entries: &mut ArrayVec<f32, N>, entry: f32) -> Result<(), Fault> {
+    entries.try_push(entry).map_err(|_| Fault::BadLine)
 }
 
 impl Kind {
@@ -94,7 +96,8 @@ impl Kind {
         }
     }
 
-    // The sample that x stands for. Of the special ones seven in eight are random; a denormal one is of either sign.
+    // The sample that x stands for. Of the special ones seven in eight are random, and a denormal one is of
+    // either sign.
     fn sample(self, x: u32) -> f32 {
         match self {
             Kind::Constant => bits::float_of(x),
