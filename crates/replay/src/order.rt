@@ -152,6 +152,7 @@ fn place<R: Read>(script: &mut Script<R>) -> Result<Order, Fault> {
 }
 
 // Any number of fields, none too; of a field that is there twice the last counts.
+// The loop is that of `process`: one function for both would ask for a closure and a clause on it, to save four lines.
 fn forge<R: Read>(script: &mut Script<R>, state: FlatState) -> Result<Order, Fault> {
     let mut state = state;
     for _ in 0..u64::MAX {
