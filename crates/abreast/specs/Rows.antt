@@ -1,25 +1,26 @@
--- One direct row over four windows. Assumes nothing.
-use Rattle.std.specs.Prelude.{ℕ, ◌≤◌, List, [], ◌∷◌, Float}
+-- One direct row over four windows of one history. Assumes nothing.
+use Rattle.std.specs.Prelude.{ℕ, ◌+◌, List, [], ◌∷◌, drop, slice_index, Float}
 use Rattle.math.specs.Operators.{◌+ᶠ◌, ◌*ᶠ◌}
 use Rattle.kernel.specs.Sums.{at, direct_sum}
+use Rattle.abreast.specs.declared.Windows.{Windows}
 
--- the four outputs
-abbrev pub four_rows : ℕ → List Float → List Float → List Float → List Float → List Float → List Float
-four_rows n row w0 w1 w2 w3 = direct_sum n row w0 ∷ direct_sum n row w1 ∷ direct_sum n row w2 ∷ direct_sum n row w3 ∷ []
+-- window k, and what lies behind it
+abbrev pub window_of : Windows → ℕ → List Float
+window_of w k = drop (slice_index w.starts k) w.history.now
 
--- the four sums s with the products of tap j added to them
-abbrev pub four_taps : List Float → List Float → List Float → List Float → List Float → List Float → ℕ → List Float
-four_taps s row w0 w1 w2 w3 j =
-    (at s 0 +ᶠ at row j *ᶠ at w0 j)
-    ∷ (at s 1 +ᶠ at row j *ᶠ at w1 j)
-    ∷ (at s 2 +ᶠ at row j *ᶠ at w2 j)
-    ∷ (at s 3 +ᶠ at row j *ᶠ at w3 j)
+-- the four outputs, of the first n taps
+abbrev pub four_rows : Windows → ℕ → List Float → List Float
+four_rows w n row =
+    direct_sum n row (window_of w 0)
+    ∷ direct_sum n row (window_of w 1)
+    ∷ direct_sum n row (window_of w 2)
+    ∷ direct_sum n row (window_of w 3)
     ∷ []
 
--- n taps lie within the row and the windows, given by their lengths
-pub record RowsWithin (n row w0 w1 w2 w3 : ℕ) : Type 0 where
-  pub in_row : n ≤ row
-  pub in0 : n ≤ w0
-  pub in1 : n ≤ w1
-  pub in2 : n ≤ w2
-  pub in3 : n ≤ w3
+-- sum k of s with the product of tap j added to it
+abbrev pub tap_added : Windows → List Float → List Float → ℕ → ℕ → Float
+tap_added w s row j k = at s k +ᶠ at row j *ᶠ at w.history.now (slice_index w.starts k + j)
+
+-- the four sums with them
+abbrev pub four_taps : Windows → List Float → List Float → ℕ → List Float
+four_taps w s row j = tap_added w s row j 0 ∷ tap_added w s row j 1 ∷ tap_added w s row j 2 ∷ tap_added w s row j 3 ∷ []

@@ -1,410 +1,244 @@
 // Four outputs side by side. Document 01 fixes the order in which an output is summed, so a single
 // output cannot be had faster; four of them share the reading of samples and coefficients, and none
 // waits for another's sum. What comes out is `kernel::step`'s, bit for bit: each contract says so.
-//
-// The four windows are parts of one history: `window` starts where the first of them does.
 #![tactic(auto)]
 
-ghost use Rattle.std.specs.Prelude.{◌≡◌, true, ◌+◌, ◌*◌, ◌^◌, ◌≤◌, ◌<◌, length, drop};
-ghost use Rattle.abreast.specs.Rows.{four_rows, four_taps, RowsWithin};
-ghost use Rattle.abreast.specs.Sums.{EntriesWithin, PartWithin, four_spread, WindowsWithin, FourTapsWithin, SumsAt, AllSums};
-ghost use Rattle.abreast.specs.Four.{parts_of, OneRow, AllInterpolated, four_interpolated, four_steps, FourReach};
+ghost use Rattle.std.specs.Prelude.{◌≡◌, ◌+◌, ◌-◌, ◌*◌, ◌≤◌, ◌<◌, length, drop, slice_index};
+ghost use Rattle.kernel.specs.Interpolated.{tap};
+ghost use Rattle.abreast.specs.Within.{WindowsWithin, FourTapsWithin};
+ghost use Rattle.abreast.specs.Four.{four_steps, FourReach};
 
+use kernel::Phase::{Direct, Interpolated};
 use kernel::{Phase, fold_sums, spread, step, sums_on};
 
-// How far past the first window the other three start.
+// Four windows of n samples, parts of one history, by where in it each starts: none before the first
+// or after the last.
 #[derive(Clone, Copy)]
-pub struct Shifts {
-    pub b: usize,
-    pub c: usize,
-    pub d: usize,
-}
-
-// One coefficient times a sample of each window, added to the four sums.
-fn four_taps(
-    sums: [f32; 4],
-    row: &[f32],
-    w0: &[f32],
-    w1: &[f32],
-    w2: &[f32],
-    w3: &[f32],
-    j: usize,
-) -> [f32; 4]
-    requires { RowsWithin (j + 1) (length row.now) (length w0.now) (length w1.now) (length w2.now) (length w3.now) }
-    ensures { result ≡ four_taps sums row.now w0.now w1.now w2.now w3.now j }
-{
-    let coef = row[j];
-    [
-        sums[0] + coef * w0[j],
-        sums[1] + coef * w1[j],
-        sums[2] + coef * w2[j],
-        sums[3] + coef * w3[j],
-    ]
-}
-
-// One row over four windows, four taps a turn: the compiler then reads each window four samples at a
-// time.
-fn rows_by_fours(
-    row: &[f32],
-    w0: &[f32],
-    w1: &[f32],
-    w2: &[f32],
-    w3: &[f32],
-    quarters: usize,
-) -> [f32; 4]
-    requires { RowsWithin (quarters * 4) (length row.now) (length w0.now) (length w1.now) (length w2.now) (length w3.now) }
-    ensures { result ≡ four_rows (quarters * 4) row.now w0.now w1.now w2.now w3.now }
-{
-    let mut sums: [f32; 4] = [0.0; 4];
-    let mut j = 0;
-    let mut turn = 0;
-    while turn < quarters {
-        let one = four_taps(sums, row, w0, w1, w2, w3, j);
-        let two = four_taps(one, row, w0, w1, w2, w3, j + 1);
-        let three = four_taps(two, row, w0, w1, w2, w3, j + 2);
-        let four = four_taps(three, row, w0, w1, w2, w3, j + 3);
-        sums = four;
-        j += 4;
-        turn += 1;
-    }
-    sums
-}
-
-// One row over four windows: by fours, and then the taps that are left.
-fn four_rows(row: &[f32], w0: &[f32], w1: &[f32], w2: &[f32], w3: &[f32], n: usize) -> [f32; 4]
-    requires { RowsWithin n (length row.now) (length w0.now) (length w1.now) (length w2.now) (length w3.now) }
-    ensures { result ≡ four_rows n row.now w0.now w1.now w2.now w3.now }
-{
-    let quarters = n / 4;
-    let by_fours = rows_by_fours(row, w0, w1, w2, w3, quarters);
-    let mut sums = by_fours;
-    let mut j = quarters * 4;
-    while j < n {
-        let next = four_taps(sums, row, w0, w1, w2, w3, j);
-        sums = next;
-        j += 1;
-    }
-    sums
-}
-
-// The offset of each of four interpolated outputs.
-#[derive(Clone, Copy)]
-struct Offsets {
-    a: usize,
-    b: usize,
-    c: usize,
-    d: usize,
-}
-
-// The four sums of each of them.
-#[derive(Clone, Copy)]
-struct Sums {
-    a: [f32; 4],
-    b: [f32; 4],
-    c: [f32; 4],
-    d: [f32; 4],
-}
-
-// The next count samples go to all four outputs; each has its own part of the table, in which a
-// sample's coefficients stand at the same index. A sample is read once, and so is its index worked out.
-fn spread_on(
-    sums: Sums,
-    window: &[f32],
-    ta: &[f32],
-    tb: &[f32],
-    tc: &[f32],
-    td: &[f32],
-    count: usize,
-    oversample: usize,
-) -> Sums
-    requires count_in_bounds { (count ≤ length window.now) × (count * oversample < 2 ^ 62) }
-    requires entries_within { EntriesWithin count oversample (length ta.now) × EntriesWithin count oversample (length tb.now) × EntriesWithin count oversample (length tc.now) × EntriesWithin count oversample (length td.now) }
-    ensures { result ≡ four_spread sums count oversample window.now ta.now tb.now tc.now td.now }
-{
-    let mut a = sums.a;
-    let mut b = sums.b;
-    let mut c = sums.c;
-    let mut d = sums.d;
-    let mut idx = 0;
-    let mut j = 0;
-    while j < count {
-        let curr_in = window[j];
-        let next_a = spread(a, curr_in, ta, idx);
-        let next_b = spread(b, curr_in, tb, idx);
-        let next_c = spread(c, curr_in, tc, idx);
-        let next_d = spread(d, curr_in, td, idx);
-        a = next_a;
-        b = next_b;
-        c = next_c;
-        d = next_d;
-        idx += oversample;
-        j += 1;
-    }
-    Sums { a, b, c, d }
-}
-
-// The same with the four parts as numbers: where in the table each starts.
-fn spread_from(
-    sums: Sums,
-    window: &[f32],
-    coefs: &[f32],
-    from_a: usize,
-    from_b: usize,
-    from_c: usize,
-    from_d: usize,
-    count: usize,
-    oversample: usize,
-) -> Sums
-    requires count_in_bounds { (count ≤ length window.now) × (count * oversample < 2 ^ 62) }
-    requires part_within { PartWithin from_a count oversample (length coefs.now) × PartWithin from_b count oversample (length coefs.now) × PartWithin from_c count oversample (length coefs.now) × PartWithin from_d count oversample (length coefs.now) }
-    ensures { result ≡ four_spread sums count oversample window.now (drop from_a coefs.now) (drop from_b coefs.now) (drop from_c coefs.now) (drop from_d coefs.now) }
-{
-    spread_on(
-        sums,
-        window,
-        &coefs[from_a..],
-        &coefs[from_b..],
-        &coefs[from_c..],
-        &coefs[from_d..],
-        count,
-        oversample,
-    )
-}
-
-// The sums of the samples before the last window starts.
-fn sums_before(
-    window: &[f32],
-    shifts: Shifts,
-    coefs: &[f32],
+struct Windows<'a> {
+    history: &'a [f32],
+    starts: [usize; 4],
     n: usize,
-    oversample: usize,
-    offsets: Offsets,
-) -> Sums
-    requires { WindowsWithin shifts n (length window.now) × (shifts.d < n) × FourTapsWithin n oversample offsets (length coefs.now) }
-    ensures { SumsAt oversample offsets shifts coefs.now window.now shifts.d result }
-{
-    let none: [f32; 4] = [0.0; 4];
-    let b = shifts.b;
-    let c = shifts.c;
-    let d = shifts.d;
-    Sums {
-        a: sums_on(none, window, coefs, oversample, offsets.a, 0, d),
-        b: sums_on(none, &window[b..], coefs, oversample, offsets.b, 0, d - b),
-        c: sums_on(none, &window[c..], coefs, oversample, offsets.c, 0, d - c),
-        d: none,
+    ghost within: { WindowsWithin starts n (length history.now) },
+}
+
+impl Windows<'_> {
+    ghost use Rattle.abreast.specs.Rows.{four_rows, four_taps};
+
+    // One coefficient times a sample of each window, added to the four sums.
+    fn four_taps(&self, sums: [f32; 4], row: &[f32], j: usize) -> [f32; 4]
+        requires { (j < self.now.n) × (j < length row.now) }
+        ensures { result ≡ four_taps self.now sums row.now j }
+    {
+        let coef = row[j];
+        [
+            sums[0] + coef * self.history[self.starts[0] + j],
+            sums[1] + coef * self.history[self.starts[1] + j],
+            sums[2] + coef * self.history[self.starts[2] + j],
+            sums[3] + coef * self.history[self.starts[3] + j],
+        ]
     }
-}
 
-// Those of the samples that lie in all four windows.
-fn sums_within(
-    sums: Sums,
-    window: &[f32],
-    shifts: Shifts,
-    coefs: &[f32],
-    n: usize,
-    oversample: usize,
-    offsets: Offsets,
-) -> Sums
-    requires windows_within { WindowsWithin shifts n (length window.now) × (shifts.d < n) × FourTapsWithin n oversample offsets (length coefs.now) }
-    requires sums_at { SumsAt oversample offsets shifts coefs.now window.now shifts.d sums }
-    ensures { SumsAt oversample offsets shifts coefs.now window.now n result }
-{
-    let d = shifts.d;
-    let from_a = 2 + (d + 1) * oversample - offsets.a;
-    let from_b = 2 + (d - shifts.b + 1) * oversample - offsets.b;
-    let from_c = 2 + (d - shifts.c + 1) * oversample - offsets.c;
-    let from_d = 2 + oversample - offsets.d;
-    spread_from(
-        sums,
-        &window[d..],
-        coefs,
-        from_a,
-        from_b,
-        from_c,
-        from_d,
-        n - d,
-        oversample,
-    )
-}
-
-// Those of the samples after the first window's end.
-fn sums_after(
-    sums: Sums,
-    window: &[f32],
-    shifts: Shifts,
-    coefs: &[f32],
-    n: usize,
-    oversample: usize,
-    offsets: Offsets,
-) -> Sums
-    requires windows_within { WindowsWithin shifts n (length window.now) × (shifts.d < n) × FourTapsWithin n oversample offsets (length coefs.now) }
-    requires sums_at { SumsAt oversample offsets shifts coefs.now window.now n sums }
-    ensures { AllSums oversample offsets shifts coefs.now window.now n result }
-{
-    let b = shifts.b;
-    let c = shifts.c;
-    let d = shifts.d;
-    let sums_a = sums.a;
-    let sums_b = sums.b;
-    let sums_c = sums.c;
-    let sums_d = sums.d;
-    Sums {
-        a: sums_a,
-        b: sums_on(sums_b, &window[b..], coefs, oversample, offsets.b, n - b, n),
-        c: sums_on(sums_c, &window[c..], coefs, oversample, offsets.c, n - c, n),
-        d: sums_on(sums_d, &window[d..], coefs, oversample, offsets.d, n - d, n),
-    }
-}
-
-// Four interpolated outputs, the last of whose windows starts before the first ends.
-fn interpolate_four(
-    window: &[f32],
-    shifts: Shifts,
-    coefs: &[f32],
-    n: usize,
-    oversample: usize,
-    offsets: Offsets,
-    fracs: [f32; 4],
-) -> [f32; 4]
-    requires { WindowsWithin shifts n (length window.now) × (shifts.d < n) × FourTapsWithin n oversample offsets (length coefs.now) }
-    ensures { result ≡ four_interpolated oversample offsets fracs n coefs.now shifts window.now }
-{
-    let before = sums_before(window, shifts, coefs, n, oversample, offsets);
-    let within = sums_within(before, window, shifts, coefs, n, oversample, offsets);
-    let all = sums_after(within, window, shifts, coefs, n, oversample, offsets);
-    let a = all.a;
-    let b = all.b;
-    let c = all.c;
-    let d = all.d;
-    [
-        fold_sums(fracs[0], a),
-        fold_sums(fracs[1], b),
-        fold_sums(fracs[2], c),
-        fold_sums(fracs[3], d),
-    ]
-}
-
-// A phase as numbers: whether it is direct, its row or its offset, its remainder.
-#[derive(Clone, Copy)]
-struct Parts {
-    direct: bool,
-    index: usize,
-    frac: f32,
-}
-
-fn parts_of(phase: Phase) -> Parts
-    ensures { result ≡ parts_of phase }
-{
-    match phase {
-        Phase::Direct(row) => Parts {
-            direct: true,
-            index: row,
-            frac: 0.0,
-        },
-        Phase::Interpolated(offset, frac) => Parts {
-            direct: false,
-            index: offset,
-            frac,
-        },
-    }
-}
-
-// Whether all four are of one direct row.
-fn one_row(p: Parts, q: Parts, r: Parts, s: Parts) -> bool
-    ensures { result ≡ true → OneRow p q r s }
-{
-    if p.direct && q.direct && r.direct && s.direct {
-        if q.index == p.index && r.index == p.index {
-            return s.index == p.index;
+    // One row over the windows, four taps a turn: the compiler then reads each window four samples at
+    // a time.
+    fn rows_by_fours(&self, row: &[f32], quarters: usize) -> [f32; 4]
+        requires { (quarters * 4 ≤ self.now.n) × (quarters * 4 ≤ length row.now) }
+        ensures { result ≡ four_rows self.now (quarters * 4) row.now }
+    {
+        let mut sums: [f32; 4] = [0.0; 4];
+        for turn in 0..quarters {
+            let j = turn * 4;
+            let one = self.four_taps(sums, row, j);
+            let two = self.four_taps(one, row, j + 1);
+            let three = self.four_taps(two, row, j + 2);
+            let four = self.four_taps(three, row, j + 3);
+            sums = four;
         }
+        sums
     }
-    false
+
+    // One row over the windows: by fours, and then the taps that are left.
+    fn four_rows(&self, row: &[f32]) -> [f32; 4]
+        requires { self.now.n ≤ length row.now }
+        ensures { result ≡ four_rows self.now self.now.n row.now }
+    {
+        let quarters = self.n / 4;
+        let mut sums = self.rows_by_fours(row, quarters);
+        for j in quarters * 4..self.n {
+            let next = self.four_taps(sums, row, j);
+            sums = next;
+        }
+        sums
+    }
+
+    // Four outputs one after another.
+    fn four_apart(&self, phases: [Phase; 4], coefs: &[f32], oversample: usize) -> [f32; 4]
+        requires { FourReach phases self.now.n oversample (length coefs.now) }
+        ensures { result ≡ four_steps phases self.now.n oversample coefs.now self.now.starts self.now.history.now }
+    {
+        let [a, b, c, d] = self.starts;
+        [
+            step(phases[0], &self.history[a..], coefs, self.n, oversample),
+            step(phases[1], &self.history[b..], coefs, self.n, oversample),
+            step(phases[2], &self.history[c..], coefs, self.n, oversample),
+            step(phases[3], &self.history[d..], coefs, self.n, oversample),
+        ]
+    }
 }
 
-// Whether all four are interpolated.
-fn all_interpolated(p: Parts, q: Parts, r: Parts, s: Parts) -> bool
-    ensures { result ≡ true → AllInterpolated p q r s }
-{
-    if p.direct || q.direct {
-        return false;
-    }
-    if r.direct || s.direct {
-        return false;
-    }
-    true
-}
-
-// Four outputs one after another.
-fn four_apart(
-    p: Phase,
-    q: Phase,
-    r: Phase,
-    s: Phase,
-    window: &[f32],
-    shifts: Shifts,
-    coefs: &[f32],
-    n: usize,
+// Four interpolated outputs, each at its offset of the table of coefficients. The last window starts
+// before the first ends, so some sample lies in all four.
+#[derive(Clone, Copy)]
+struct Overlap<'a, 'b> {
+    windows: Windows<'a>,
+    coefs: &'b [f32],
     oversample: usize,
-) -> [f32; 4]
-    requires { WindowsWithin shifts n (length window.now) × FourReach p q r s n oversample (length coefs.now) }
-    ensures { result ≡ four_steps p q r s n oversample coefs.now shifts window.now }
-{
-    let b = shifts.b;
-    let c = shifts.c;
-    let d = shifts.d;
-    [
-        step(p, window, coefs, n, oversample),
-        step(q, &window[b..], coefs, n, oversample),
-        step(r, &window[c..], coefs, n, oversample),
-        step(s, &window[d..], coefs, n, oversample),
-    ]
+    offsets: [usize; 4],
+    ghost shared: { slice_index windows.starts 3 < slice_index windows.starts 0 + windows.n },
+    ghost taps: { FourTapsWithin windows.n oversample offsets (length coefs.now) },
 }
 
-// Four outputs. Side by side where all are of one direct row, as every output is with den 1, and where
-// all are interpolated and some sample lies in all windows; else one after another.
+impl Overlap<'_, '_> {
+    ghost use Rattle.abreast.specs.Interpolated.{output_sums, sums_at, all_sums, four_interpolated};
+
+    // The four sums of output k, from those of the first `from` samples of its window on to those of
+    // the first `to`.
+    fn output_on(&self, k: usize, sums: [f32; 4], from: usize, to: usize) -> [f32; 4]
+        requires places { (k < 4) × (from ≤ to) × (to ≤ self.now.windows.n) }
+        requires sums_value { sums ≡ output_sums self.now k from }
+        ensures { result ≡ output_sums self.now k to }
+    {
+        let start = self.windows.starts[k];
+        sums_on(
+            sums,
+            &self.windows.history[start..],
+            self.coefs,
+            self.oversample,
+            self.offsets[k],
+            from,
+            to,
+        )
+    }
+
+    // The sums of the samples before the last window starts.
+    fn sums_before(&self) -> [[f32; 4]; 4]
+        ensures { result ≡ sums_at self.now (slice_index self.now.windows.starts 3) }
+    {
+        let none: [f32; 4] = [0.0; 4];
+        let [a, b, c, d] = self.windows.starts;
+        [
+            self.output_on(0, none, 0, d - a),
+            self.output_on(1, none, 0, d - b),
+            self.output_on(2, none, 0, d - c),
+            none,
+        ]
+    }
+
+    // The coefficients from those on that the last window's first sample meets for output k.
+    fn taps_on(&self, k: usize) -> &[f32]
+        requires { k < 4 }
+        ensures { result.now ≡ drop (tap self.now.oversample (slice_index self.now.offsets k) (slice_index self.now.windows.starts 3 - slice_index self.now.windows.starts k)) self.now.coefs.now }
+    {
+        let before = self.windows.starts[3] - self.windows.starts[k];
+        let first = 2 + (before + 1) * self.oversample - self.offsets[k];
+        &self.coefs[first..]
+    }
+
+    // The same with the samples that lie in all four windows: each is read once, and goes to all four
+    // outputs.
+    fn sums_within(&self, sums: [[f32; 4]; 4]) -> [[f32; 4]; 4]
+        requires { sums ≡ sums_at self.now (slice_index self.now.windows.starts 3) }
+        ensures { result ≡ sums_at self.now (slice_index self.now.windows.starts 0 + self.now.windows.n) }
+    {
+        let start = self.windows.starts[3];
+        let end = self.windows.starts[0] + self.windows.n;
+        let a = self.taps_on(0);
+        let b = self.taps_on(1);
+        let c = self.taps_on(2);
+        let d = self.taps_on(3);
+        let mut all = sums;
+        // Tried: `let idx = j * self.oversample;` in the loop, a seventh slower.
+        let mut idx = 0;
+        for j in 0..end - start {
+            let curr_in = self.windows.history[start + j];
+            let next = [
+                spread(all[0], curr_in, a, idx),
+                spread(all[1], curr_in, b, idx),
+                spread(all[2], curr_in, c, idx),
+                spread(all[3], curr_in, d, idx),
+            ];
+            all = next;
+            idx += self.oversample;
+        }
+        all
+    }
+
+    // The same with the samples after the first window's end.
+    fn sums_after(&self, sums: [[f32; 4]; 4]) -> [[f32; 4]; 4]
+        requires { sums ≡ sums_at self.now (slice_index self.now.windows.starts 0 + self.now.windows.n) }
+        ensures { result ≡ all_sums self.now }
+    {
+        let n = self.windows.n;
+        let [a, b, c, d] = self.windows.starts;
+        [
+            sums[0],
+            self.output_on(1, sums[1], a + n - b, n),
+            self.output_on(2, sums[2], a + n - c, n),
+            self.output_on(3, sums[3], a + n - d, n),
+        ]
+    }
+
+    // The four outputs.
+    fn interpolate_four(&self, fracs: [f32; 4]) -> [f32; 4]
+        ensures { result ≡ four_interpolated self.now fracs }
+    {
+        let before = self.sums_before();
+        let within = self.sums_within(before);
+        let all = self.sums_after(within);
+        [
+            fold_sums(fracs[0], all[0]),
+            fold_sums(fracs[1], all[1]),
+            fold_sums(fracs[2], all[2]),
+            fold_sums(fracs[3], all[3]),
+        ]
+    }
+}
+
+// Four outputs, of windows that start at these places of the history. Side by side where all are of one
+// direct row, as every output is with den 1, and where all are interpolated and some sample lies in all
+// windows; else one after another. Its parameters stay apart: docs/DECISIONS.md and docs/CLAIMS.md name it,
+// with what it asks.
 pub fn step_four(
-    p: Phase,
-    q: Phase,
-    r: Phase,
-    s: Phase,
-    window: &[f32],
-    shifts: Shifts,
+    phases: [Phase; 4],
+    history: &[f32],
+    starts: [usize; 4],
     coefs: &[f32],
     n: usize,
     oversample: usize,
 ) -> [f32; 4]
-    requires { WindowsWithin shifts n (length window.now) × FourReach p q r s n oversample (length coefs.now) }
-    ensures { result ≡ four_steps p q r s n oversample coefs.now shifts window.now }
+    requires { WindowsWithin starts n (length history.now) × FourReach phases n oversample (length coefs.now) }
+    ensures { result ≡ four_steps phases n oversample coefs.now starts history.now }
 {
-    let pp = parts_of(p);
-    let qq = parts_of(q);
-    let rr = parts_of(r);
-    let ss = parts_of(s);
-    if one_row(pp, qq, rr, ss) {
-        let row = pp.index * n;
-        let b = shifts.b;
-        let c = shifts.c;
-        let d = shifts.d;
-        return four_rows(
-            &coefs[row..],
-            window,
-            &window[b..],
-            &window[c..],
-            &window[d..],
-            n,
-        );
-    }
-    if all_interpolated(pp, qq, rr, ss) {
-        if shifts.d < n {
-            let offsets = Offsets {
-                a: pp.index,
-                b: qq.index,
-                c: rr.index,
-                d: ss.index,
-            };
-            let fracs = [pp.frac, qq.frac, rr.frac, ss.frac];
-            return interpolate_four(window, shifts, coefs, n, oversample, offsets, fracs);
+    let windows = Windows { history, starts, n };
+    match phases {
+        [Direct(p), Direct(q), Direct(r), Direct(s)] if p == q && p == r && p == s => {
+            let from = p * n;
+            windows.four_rows(&coefs[from..])
         }
+        [
+            Interpolated(a, x),
+            Interpolated(b, y),
+            Interpolated(c, z),
+            Interpolated(d, u),
+        ] if starts[3] < starts[0] + n => {
+            let offsets = [a, b, c, d];
+            let overlap = Overlap {
+                windows,
+                coefs,
+                oversample,
+                offsets,
+            };
+            overlap.interpolate_four([x, y, z, u])
+        }
+        _ => windows.four_apart(phases, coefs, oversample),
     }
-    four_apart(p, q, r, s, window, shifts, coefs, n, oversample)
 }

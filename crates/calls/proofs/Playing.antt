@@ -7,7 +7,7 @@ use Prim.Native.Nat.{ℕ, ◌+◌, ◌-◌, ◌*◌, ◌^◌, ◌≤◌, ◌<◌
 use native.Mathlib.Nat.{sub-zero, sub-add-eq}
 use native.Mathlib.Omega.{arith}
 use lib.ListN.{length, take, drop, length-drop, length-append}
-use lib.Seq.{paste, paste-zero, drop-drop}
+use lib.Seq.{paste, paste-zero, drop-drop, take-length, length-take-le}
 use Rattle.timeline.specs.Numbers.{Rate, Place, Turn, Fit, chunk, still, and_then}
 use Rattle.timeline.specs.Samples.{Played, unplayed, play_then, play_round, play_chunk, play_rounds}
 use Rattle.timeline.proofs.Places.{made_fits, ahead_phase}
@@ -26,14 +26,18 @@ less_to_read s o read done c w h k l = omega arith
 less_room : (s o read done c w : ℕ) → read + c ≤ s → done < o → o - done - w ≡ 0 → s - (read + c) + (o - (done + w)) < s - read + (o - done)
 less_room s o read done c w h k l = omega arith
 
+-- a front of a list laid into another, as what is lent of it
+paste_taken : {A : Type 0} (d : List A) (at : ℕ) (s : List A) (n : ℕ) → n ≤ length s → paste d at (take n s) (length (take n s)) ≡ paste d at s n
+paste_taken d at s n h = rw (take-length (take n s), length-take-le n s h) refl
+
 -- the first round over the input, once a chunk is copied in
 pub chunk_wrote : {A : Type 0} (weigh : ℕ → List A → A) (r : Rate) (s : List A) (room : ℕ) (p : Place) (mem : List A)
-    {mem' left before after : List A} {t : Turn} (i : ℕ) → i ≡ min (length s) (chunk r) → mem' ≡ paste mem (r.n - 1) s i
+    {mem' left before after : List A} {t : Turn} (i : ℕ) → i ≡ min (length s) (chunk r) → mem' ≡ paste mem (r.n - 1) (take i s) (length (take i s))
     → Wrote (play_round weigh r i room p mem') t left before after
     → Wrote (play_chunk weigh r s room p mem) t left before after
 chunk_wrote {A} weigh r s room p mem {mem'} {left} {before} {after} {t} i e f w =
     subst (λ (h : Played Turn A). Wrote h t left before after)
-    (ap₂ (λ (k : ℕ) (m : List A). play_round weigh r k room p m) e (f ∙ ap (λ (k : ℕ). paste mem (r.n - 1) s k) e)) w
+    (ap₂ (λ (k : ℕ) (m : List A). play_round weigh r k room p m) e (f ∙ paste_taken mem (r.n - 1) s i (omega (arith, e)) ∙ ap (λ (k : ℕ). paste mem (r.n - 1) s k) e)) w
 
 module _ {A : Type 0} (weigh : ℕ → List A → A) (r : Rate) (s mem₀ out₀ : List A) (p : Place) where
   -- the invariant, with `read` samples read, `done` outputs written, and the place q

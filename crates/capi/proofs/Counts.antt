@@ -4,15 +4,14 @@ use Prim.Native.Nat.{ℕ, ◌/◌, ◌≤◌}
 use native.Mathlib.Omega.{arith}
 use lib.Ieee.{Float}
 use lib.ListN.{length}
+use Rattle.std.specs.Prelude.{Ok, Err}
 use Rattle.quality.specs.House.{house}
 use Rattle.quality.proofs.House.{house_sane}
 use Rattle.rates.specs.Setting.{setting_of}
 use Rattle.state.specs.State.{fresh_state, zero_state, moved_to}
 use Rattle.state.specs.declared.ResamplerState.{ResamplerState}
 use Rattle.judge.specs.Refusals.{max_call}
-use Rattle.judge.specs.Verdicts.{new_verdict, rate_verdict, reset_verdict, skip_verdict}
-use Rattle.judge.specs.declared.Verdict.{Verdict}
-use Rattle.judge.specs.declared.Verdict.TheVariants.{Refuse, Accept}
+use Rattle.judge.specs.Verdicts.{Verdict, new_verdict, rate_verdict, reset_verdict, skip_verdict}
 use Rattle.update.specs.Updated.{updated_state}
 use Rattle.resampler.specs.Answers.{Told, refused, accepted, by_verdict}
 use Rattle.resampler.specs.Entries.{unless_same, new_told, rate_told, process_told, reset_told, skip_told}
@@ -24,8 +23,8 @@ Within t = (t.consumed ≤ max_call) × (t.written ≤ max_call)
 
 -- where an accepted call counts nothing
 uncounted : (v : Verdict) (s t : ResamplerState) → Within (by_verdict v (λ r. refused r s) (accepted t 0 0))
-uncounted (Refuse r) s t = (omega arith, omega arith)
-uncounted Accept s t = (omega arith, omega arith)
+uncounted (Err r) s t = (omega arith, omega arith)
+uncounted (Ok x) s t = (omega arith, omega arith)
 
 pub new_within : (target : ℕ) → Within (new_told target)
 unfolding new_told

@@ -1,4 +1,3 @@
--- What each exported call's contract needs of the resampler's, and that a refused call changes nothing. Assumes nothing.
+-- That no call's counts are cut, and that a refused call changes nothing. Assumes nothing.
 pub mod Counts
-pub mod Calls
 pub mod Refused

@@ -1,5 +1,6 @@
 // What C calls: one export for each function of `capi`, with the same clauses, as the static library
 // that `include/marshdeck.h` declares. Nothing is worked out here.
+// The ten stand here once more for C's sake: a crate is a library or a static library, not both.
 #![tactic(auto)]
 
 ghost use Rattle.std.specs.Prelude.{◌≡◌};

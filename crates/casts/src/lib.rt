@@ -1,4 +1,4 @@
-// Casts of the Rust that Rattle's `as` leaves undefined, worked out from the bits: f64 to f32, and
+// Casts of the Rust that Rattle's `as` leaves undefined: f64 to f32, worked out from the bits, and
 // the floor of an f32 to usize. Beside them the one that `as` has, u32 to f32 where it is exact.
 // From f32 to f64 the kit's `std::num::f32_to_f64_with_nan` serves.
 #![tactic(auto)]
@@ -56,6 +56,8 @@ fn narrow_pattern(rest: u64) -> u64
 
 // The f32 nearest to x, a tie to the even one, as Rust's `x as f32`. Zeros keep their sign, what is
 // too large gives an infinity, and a NaN gives a NaN.
+// Not the library's `nearest_f64_to_f32_with_nan`: the edits `narrow_ties_up` and
+// `narrow_late_infinity` change steps of this.
 pub fn narrow(x: f64) -> f32
     ensures { result ≡ narrowed x }
 {
@@ -71,20 +73,15 @@ pub fn narrow(x: f64) -> f32
 }
 
 // The largest whole number that is not above y, as Rust's `y.floor() as usize`: 0 where y is
-// negative or a NaN, and `usize::MAX` from 2^64 on.
+// negative or a NaN, and `usize::MAX` from 2^64 on. The library's, under the name of docs/CLAIMS.md.
 pub fn floor(y: f32) -> usize
     ensures { result ≡ floor_of y }
 {
-    if y > 0.0 {
-        if y < 18446744073709551616.0 {
-            return std::num::truncating_f32_to_u64(y) as usize;
-        }
-        return usize::MAX;
-    }
-    0
+    std::num::saturating_f32_to_usize(y)
 }
 
-// n as an f32. Up to 2^24 every whole number is one, so nothing is rounded.
+// n as an f32. Up to 2^24 every whole number is one, so nothing is rounded. The bound stays a clause, here
+// and where `filter` calls it: docs/CLAIMS.md names `casts::small` of a plain u32.
 pub fn small(n: u32) -> f32
     requires { n ≤ 2 ^ 24 }
     ensures { result ≡ as_f32 n }

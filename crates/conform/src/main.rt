@@ -2,5 +2,5 @@
 #![tactic(auto)]
 
 fn main(rt: HostRuntime) {
-    conforming::run(&rt, &mut rt.stdin(), &mut rt.stdout());
+    let _ = conforming::run(&rt, &mut rt.stdin(), &mut rt.stdout());
 }

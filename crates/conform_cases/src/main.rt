@@ -2,78 +2,48 @@
 // give, both under data/. Writes the name of each input that gave something else, and then the totals.
 #![tactic(auto)]
 
-ghost use Rattle.std.specs.Prelude.{◌≤◌, length};
-
-use conforming::Ending;
+use conforming::Stopped;
 use std::env::FillError;
 use std::io::Read;
 use std::rt::{Env, Files};
 use std::{fs, str};
 
-// How two files go on: a block of each is the same and more may follow, they ended alike, or they differ.
-#[derive(Clone, Copy)]
-pub enum Next {
-    More,
-    Ended,
-    Differ,
+// The bytes of a file that come next, as many as there is room for. A file whose reading fails ends
+// there.
+fn read_block<'a, R: Read>(file: &mut R, room: &'a mut [u8]) -> &'a [u8] {
+    let n = conforming::read_full(file, room).unwrap_or_else(|cut| cut.count);
+    &room[..n]
 }
 
-// Reads until the block is full, the file ends or a read fails, and answers how many bytes it read.
-fn read_full<R: Read>(file: &mut R, block: &mut [u8]) -> usize
-    ensures { result ≤ length block.new }
-{
-    let mut done = 0;
-    while done < block.len() {
-        let Ok(count) = file.read(&mut block[done..]) else {
-            break;
-        };
-        if count == 0 {
-            break;
-        }
-        done += count;
-    }
-    done
-}
-
-fn compare_some<R: Read>(a: &mut R, b: &mut R) -> Next {
+// Compares a block of each of two files. None where the blocks are the same and more may follow, else
+// whether the files are the same.
+fn compare_some<R: Read>(a: &mut R, b: &mut R) -> Option<bool> {
     let mut xs = [0u8; 4096];
     let mut ys = [0u8; 4096];
-    let m = read_full(a, &mut xs);
-    let n = read_full(b, &mut ys);
-    if &xs[..m] != &ys[..n] {
-        return Next::Differ;
+    let x = read_block(a, &mut xs);
+    let y = read_block(b, &mut ys);
+    let same = x == y;
+    if same && x.len() == 4096 {
+        None
+    } else {
+        Some(same)
     }
-    if m < 4096 {
-        return Next::Ended;
-    }
-    Next::More
 }
 
 fn same_files<R: Read>(a: &mut R, b: &mut R) -> bool {
-    for _ in 0..u64::MAX {
-        match compare_some(a, b) {
-            Next::More => {}
-            Next::Ended => return true,
-            Next::Differ => return false,
-        }
-    }
-    false
+    (0..u64::MAX)
+        .find_map(|_| compare_some(a, b))
+        .unwrap_or(false)
 }
 
-// Whether a run came to its end, by conforming or by refusing the file.
-fn came_to_its_end(ending: Ending) -> bool {
-    match ending {
-        Ending::Conformed => true,
-        Ending::Refused(_) => true,
-        Ending::ReadFailed => false,
-        Ending::WriteFailed => false,
-    }
-}
-
-// Runs the code on an open file, onto the file `out`; whether it came to its end.
+// Runs the code on an open file, onto the file `out`; whether it came to its end, by conforming or by
+// refusing the file.
 fn runs<R: Files + Eprint>(rt: &R, input: &mut R::File) -> bool {
     match fs::create(rt, "out") {
-        Ok(mut out) => came_to_its_end(conforming::run(rt, input, &mut out)),
+        Ok(mut out) => matches!(
+            conforming::run(rt, input, &mut out),
+            Ok(()) | Err(Stopped::Refused(_))
+        ),
         Err(_) => false,
     }
 }
@@ -100,48 +70,35 @@ fn is_right<R: Files + Eprint>(rt: &R, input: Option<R::File>, want: Option<R::F
     whole & same
 }
 
-// Puts argument i at the start of the bytes, and answers its length: 0 where it is missing or longer.
-fn argument(rt: &impl Env, i: usize, bytes: &mut [u8; 4096]) -> usize
-    ensures { result ≤ 4096 }
-{
-    rt.arg(i, bytes).unwrap_or(0)
+// Argument i, put at the start of the bytes. None where it is missing or longer.
+fn argument<'a>(rt: &impl Env, i: usize, bytes: &'a mut [u8]) -> Option<&'a [u8]> {
+    let k = rt.arg(i, bytes).ok()?;
+    Some(&bytes[..k])
 }
 
-// The file of this name. None where it cannot be opened, or the name is no text.
-fn open<R: Files>(rt: &R, name: &[u8]) -> Option<R::File> {
-    fs::open(rt, str::from_utf8(name).ok()?).ok()
+// The file of this name. None where there is no name, it is no text, or the file cannot be opened.
+fn open<R: Files>(rt: &R, name: Option<&[u8]>) -> Option<R::File> {
+    fs::open(rt, str::from_utf8(name?).ok()?).ok()
 }
 
 // The case of arguments i and i + 1; whether it failed.
 fn fails<R: Files + Env + Print + Eprint>(rt: &R, i: usize) -> bool {
-    let mut name = [0u8; 4096];
-    let k = argument(rt, i, &mut name);
-    let input = open(rt, &name[..k]);
+    let mut bytes = [0u8; 4096];
+    let name = argument(rt, i, &mut bytes);
+    let input = open(rt, name);
     let mut other = [0u8; 4096];
-    let l = argument(rt, std::num::wrapping_add_usize(i, 1), &mut other);
-    let want = open(rt, &other[..l]);
+    let want = open(rt, argument(rt, i.wrapping_add(1), &mut other));
     let right = is_right(rt, input, want);
     if !right {
-        let _ = rt.write_all(&name[..k]);
+        let _ = rt.write_all(name.unwrap_or(b""));
         let _ = rt.write_all(b" gave something else\n");
     }
     !right
 }
 
 // How many of the cases fail.
-fn count_wrong<R: Files + Env + Print + Eprint>(rt: &R, count: usize) -> u64 {
-    let mut i = 1;
-    let mut wrong: u64 = 0;
-    while i < count {
-        if fails(rt, i) {
-            wrong = std::num::wrapping_add_u64(wrong, 1);
-        }
-        if count - i < 2 {
-            break;
-        }
-        i += 2;
-    }
-    wrong
+fn count_wrong<R: Files + Env + Print + Eprint>(rt: &R, count: usize) -> usize {
+    (1..count).step_by(2).filter(|i| fails(rt, *i)).count()
 }
 
 // How many arguments the program was started with, its own name among them.

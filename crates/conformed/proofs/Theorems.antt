@@ -3,8 +3,10 @@
 use mathlib.Core.Path.{◌≡◌, refl, sym, ◌∙◌, ap}
 use mathlib.Core.Bool.{Bool, true, false, cond}
 use mathlib.Core.Logic.{inl, inr}
-use mathlib.Core.List.{List, [], ◌∷◌, ◌++◌, append-nil}
-use Prim.Native.Nat.{ℕ, zero, suc, ◌≤◌}
+use mathlib.Core.List.{List, [], ◌++◌, append-nil}
+use Prim.Native.Nat.{ℕ, ◌≤◌}
+use Rattle.std.specs.Prelude.{Result, Ok, Err}
+use Rattle.std.proofs.lemmas.List.{drop_all}
 use native.Mathlib.Omega.{arith}
 use borrow.Author.Tests.{le-ltb}
 use lib.Dec.{eqb}
@@ -22,12 +24,12 @@ use Rattle.rates.specs.Rated.{rate_with}
 use Rattle.filter.specs.Settings.{table_of}
 use Rattle.rounds.specs.Output.{weigh_of}
 use Rattle.judge.specs.Refusals.{refusal_number}
+use Rattle.judge.specs.declared.Refusal.{Refusal}
 use Rattle.recording.specs.Recording.{Recording}
 use Rattle.recording.specs.Totals.{counted_total, max_samples, closed_total_told}
 use Rattle.pcm.specs.Header.{header_length, header_of}
 use Rattle.pcm.specs.Blocks.{samples_of, bytes_of}
-use Rattle.pcm.specs.declared.Header.{Header}
-use Rattle.pcm.specs.declared.Header.TheVariants.{Refused, Rates}
+use Rattle.pcm.specs.declared.Rates.{Rates}
 use Rattle.edges.specs.Edges.{whole_of}
 use Rattle.conformed.specs.Conformed.{refusal_line, closed_input, resampled, conformed_by, conformed}
 use Rattle.conformed.specs.Program.{Slices, Long, ReadAs, AllShort, joined, copied_blocks, resampled_blocks, first_stage, blocks_by, blocks, OfTheFile}
@@ -35,13 +37,6 @@ use Rattle.conformed.proofs.Headers.{rates_in_limits}
 use Rattle.conformed.proofs.Opened.{filter_length_lem}
 use Rattle.conformed.proofs.Odd.{copied}
 use Rattle.conformed.proofs.Resampled as resampling
-
--- nothing lies past a list's end
-drop_all : (k : ℕ) (l : List ℕ) → length l ≤ k → drop k l ≡ []
-drop_all zero [] h = refl
-drop_all zero (x ∷ l) h = absurd (omega arith)
-drop_all (suc k) [] h = refl
-drop_all (suc k) (x ∷ l) h = drop_all k l (omega arith)
 
 -- ---- the header and the body of what was read
 module _ (head : List ℕ) (reads : List (List ℕ)) (r : ReadAs head reads) where
@@ -71,11 +66,11 @@ module _ (l : Slices) (long : Long l) (reads : List (List ℕ)) (short : AllShor
       ap (λ (n : ℕ). joined (resampled_blocks n (first_stage l source target) reads)) (filter_length_lem source target hs ht l.mem l.coefs long.mem long.coefs l.out)
       ∙ resampling.handed_on source target hs ht l long (joined reads) reads short refl
 
-  by_header : (head : List ℕ) (h : Header) → header_of head ≡ h → joined (blocks_by l h reads) ≡ conformed_by h (joined reads)
-  by_header head (Refused refusal) e = append-nil (refusal_line (refusal_number refusal))
-  by_header head (Rates source target) e =
-      let w = rates_in_limits head source target e in
-      by_rates source target w.0 w.1 (eqb source target)
+  by_header : (head : List ℕ) (h : Result Rates Refusal) → header_of head ≡ h → joined (blocks_by l h reads) ≡ conformed_by h (joined reads)
+  by_header head (Err refusal) e = append-nil (refusal_line (refusal_number refusal))
+  by_header head (Ok rates) e =
+      let w = rates_in_limits head rates e in
+      by_rates rates.source rates.target w.0 w.1 (eqb rates.source rates.target)
 
 -- THE PROGRAM
 

@@ -1,5 +1,5 @@
 -- Document 01, "Small program": what the program makes of a whole file, from a list of bytes to a list of bytes. Assumes nothing.
-use Rattle.std.specs.Prelude.{cond, List, [], ◌∷◌, ◌++◌, ℕ, ◌+◌, eqb, ltb, Float, length, take, drop}
+use Rattle.std.specs.Prelude.{cond, List, [], ◌∷◌, ◌++◌, ℕ, ◌+◌, eqb, ltb, Float, length, take, drop, Result, Ok, Err}
 use Rattle.math.specs.Numerals.{nought}
 use Rattle.ratio.specs.Lowest.{lowest}
 use Rattle.sizes.specs.Sizes.{history_needed}
@@ -10,10 +10,10 @@ use Rattle.rates.specs.Rated.{rate_with, closed_total}
 use Rattle.filter.specs.Settings.{table_of}
 use Rattle.rounds.specs.Output.{weigh_of}
 use Rattle.judge.specs.Refusals.{refusal_number}
+use Rattle.judge.specs.declared.Refusal.{Refusal}
 use Rattle.pcm.specs.Header.{header_length, header_of}
 use Rattle.pcm.specs.Blocks.{samples_of, bytes_of}
-use Rattle.pcm.specs.declared.Header.{Header}
-use Rattle.pcm.specs.declared.Header.TheVariants.{Refused, Rates}
+use Rattle.pcm.specs.declared.Rates.{Rates}
 use Rattle.edges.specs.Edges.{whole_of, closing}
 
 -- the line of a refusal: `refused N`, where N has one digit, and the line's end
@@ -36,9 +36,9 @@ abbrev pub conformed_body : ℕ → ℕ → List ℕ → List ℕ
 conformed_body source target body = cond (eqb source target) (whole_of body) (bytes_of (resampled source target (samples_of body)))
 
 -- by its header
-abbrev pub conformed_by : Header → List ℕ → List ℕ
-conformed_by (Refused refusal) body = refusal_line (refusal_number refusal)
-conformed_by (Rates source target) body = conformed_body source target body
+abbrev pub conformed_by : Result Rates Refusal → List ℕ → List ℕ
+conformed_by (Err refusal) body = refusal_line (refusal_number refusal)
+conformed_by (Ok rates) body = conformed_body rates.source rates.target body
 
 -- a whole file
 unfoldable pub conformed : List ℕ → List ℕ

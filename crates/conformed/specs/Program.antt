@@ -1,6 +1,6 @@
 -- Document 01, "Small program": the program as it runs. It reads a header of at most 13 bytes, then the rest of the file, cut into reads in any way. Here
 -- are the blocks that it hands to be written, in order. Assumes nothing.
-use Rattle.std.specs.Prelude.{◌≡◌, cond, ◌⊎◌, List, [], ◌∷◌, ◌++◌, ℕ, ◌≤◌, ◌<◌, eqb, Float, length}
+use Rattle.std.specs.Prelude.{◌≡◌, cond, ◌⊎◌, List, [], ◌∷◌, ◌++◌, ℕ, ◌≤◌, ◌<◌, eqb, Float, length, Result, Ok, Err}
 use Rattle.sizes.specs.Sizes.{max_history, max_coefficients}
 use Rattle.judge.specs.Refusals.{refusal_number, max_call}
 use Rattle.judge.specs.declared.Refusal.{Refusal}
@@ -8,8 +8,7 @@ use Rattle.quality.specs.House.{house}
 use Rattle.recording.specs.Recording.{Recording, finished, MadeUnder}
 use Rattle.pcm.specs.Header.{header_length, header_of}
 use Rattle.pcm.specs.Blocks.{samples_of}
-use Rattle.pcm.specs.declared.Header.{Header}
-use Rattle.pcm.specs.declared.Header.TheVariants.{Refused, Rates}
+use Rattle.pcm.specs.declared.Rates.{Rates}
 use Rattle.edges.specs.Edges.{whole_of, odd_of, closing}
 use Rattle.stages.specs.Stages.{Stage, opened_stage, handed, block, fed}
 use Rattle.conformed.specs.Conformed.{refusal_line}
@@ -51,9 +50,9 @@ module _ (l : Slices) where
       let g = first_stage source target in
       cond (eqb source target) (copied_blocks [] reads) (resampled_blocks g.state.filt_len g reads)
 
-  abbrev pub blocks_by : Header → List (List ℕ) → List (List ℕ)
-  blocks_by (Refused refusal) reads = refusal_line (refusal_number refusal) ∷ []
-  blocks_by (Rates source target) reads = body_blocks source target reads
+  abbrev pub blocks_by : Result Rates Refusal → List (List ℕ) → List (List ℕ)
+  blocks_by (Err refusal) reads = refusal_line (refusal_number refusal) ∷ []
+  blocks_by (Ok rates) reads = body_blocks rates.source rates.target reads
 
   -- the blocks that are handed on to be written, for a header and the reads after it
   abbrev pub blocks : List ℕ → List (List ℕ) → List (List ℕ)

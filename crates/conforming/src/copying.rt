@@ -1,55 +1,38 @@
 // Equal rates: the bytes are copied, but for a last odd one.
-ghost use Rattle.std.specs.Prelude.{◌≤◌};
+ghost use Rattle.std.specs.Prelude.{◌≤◌, IfOk};
 ghost use Rattle.conforming.specs.Endings.{Ends};
 
-use crate::files::Next;
-use crate::{Ending, files};
+use crate::Stopped;
+use crate::files::Streams;
 use std::io::{Read, Write};
 
-// What a turn leaves: how many bytes are held at the front, the first of a sample or none, and what
-// comes next.
-#[derive(Clone, Copy)]
-pub struct Copied {
-    pub held: usize,
-    pub next: Next,
-}
-
-// Reads once behind the byte held, and writes the bytes of the whole samples.
-fn copy_some<R: Read, W: Write>(
-    rt: &impl Eprint,
-    input: &mut R,
-    output: &mut W,
-    bytes: &mut [u8; 2048],
-    held: usize,
-) -> Copied
-    requires { held ≤ 1 }
-    ensures { result.held ≤ 1 }
+// Writes the whole samples of a block, and puts an odd byte after them to its front. Answers how many
+// bytes are held there.
+fn copy_some<E: Eprint, R: Read, W: Write>(
+    streams: &mut Streams<E, R, W>,
+    block: &mut [u8],
+) -> Result<usize, Stopped>
+    ensures held_to { IfOk result (λ held. held ≤ 1) }
+    ensures ends { Ends result }
 {
-    let got = files::read_behind(rt, input, bytes, held);
-    if got.count == 0 {
-        let next = files::after_nothing(got.failed);
-        return Copied { held: 0, next };
-    }
-    let n = held + got.count;
-    let next = files::after_write(files::write_first(rt, output, bytes, n - n % 2));
-    let odd = edges::keep_odd(bytes, n);
-    Copied { held: odd, next }
+    let n = block.len();
+    streams.write(&block[..n - n % 2])?;
+    Ok(edges::keep_odd(block))
 }
 
-// A proved loop has to end, and nothing says that the input does: the turns count down, from a number
-// that no run uses up.
-pub fn copy<R: Read, W: Write>(rt: &impl Eprint, input: &mut R, output: &mut W) -> Ending
+// A proved loop has to end, and nothing says that the input does: so the turns are counted, up to a
+// number that no run uses up.
+pub fn copy<E: Eprint, R: Read, W: Write>(streams: &mut Streams<E, R, W>) -> Result<(), Stopped>
     ensures { Ends result }
 {
     let mut bytes = [0u8; 2048];
     let mut held = 0;
-    let mut next = Next::More;
-    let mut turns = u64::MAX;
-    while turns > 0 && files::goes_on(next) {
-        let turn = copy_some(rt, input, output, &mut bytes, held);
-        held = turn.held;
-        next = turn.next;
-        turns -= 1;
+    for _ in 0..u64::MAX {
+        let count = streams.read(&mut bytes[held..])?;
+        if count == 0 {
+            break;
+        }
+        held = copy_some(streams, &mut bytes[..held + count])?;
     }
-    files::ending_of(next)
+    Ok(())
 }

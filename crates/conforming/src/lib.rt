@@ -12,56 +12,57 @@ ghost use Rattle.conformed.specs.Conformed.{refusal_line};
 ghost use Rattle.conformed.specs.Program.{OfAHeader};
 ghost use Rattle.conforming.specs.Endings.{Ends};
 
+use crate::files::Streams;
 use judge::Refusal;
-use pcm::Header;
 use std::io::{Read, Write};
 
 mod copying;
 mod files;
 mod resampling;
 
-// How a run ended. Refused: its line is all that was written. A read or a write that failed is told on
-// standard error; what was written before it stands.
-#[derive(Clone, Copy)]
-pub enum Ending {
-    Conformed,
+pub use files::{Cut, read_full};
+
+// Why a run stopped before the end of its file. Refused: its line is all that was written. A read or a
+// write that failed is told on standard error; what was written before it stands.
+#[derive(Clone, Copy, PartialEq, Eq)]
+pub enum Stopped {
     Refused(Refusal),
     ReadFailed,
     WriteFailed,
 }
 
 // Conforms the file that `input` reads, onto `output`. Standard error is the runtime's.
-pub fn run<R: Read, W: Write>(rt: &impl Eprint, input: &mut R, output: &mut W) -> Ending
+pub fn run<R: Read, W: Write>(
+    rt: &impl Eprint,
+    input: &mut R,
+    output: &mut W,
+) -> Result<(), Stopped>
     ensures { Ends result }
 {
+    let mut streams = Streams { rt, input, output };
     let mut head = [0u8; 13];
-    let got = files::read_full(rt, input, &mut head);
-    if got.failed {
-        return Ending::ReadFailed;
-    }
-    let count = got.count;
-    let header = pcm::read_header(&head[..count]);
-    match header {
-        Header::Refused(refusal) => refuse(rt, output, refusal),
-        Header::Rates(source, target) => {
-            if source == target {
-                return copying::copy(rt, input, output);
+    let count = streams.read_full(&mut head)?;
+    match pcm::read_header(&head[..count]) {
+        Err(refusal) => refuse(&mut streams, refusal),
+        Ok(rates) => {
+            if rates.source == rates.target {
+                return copying::copy(&mut streams);
             }
-            resampling::resample(rt, input, output, source, target)
+            resampling::resample(&mut streams, rates)
         }
     }
 }
 
 // Writes the line of a refusal, and nothing else.
-fn refuse<W: Write>(rt: &impl Eprint, output: &mut W, refusal: Refusal) -> Ending
+fn refuse<E: Eprint, R: Read, W: Write>(
+    streams: &mut Streams<E, R, W>,
+    refusal: Refusal,
+) -> Result<(), Stopped>
     requires { OfAHeader refusal }
     ensures { Ends result }
 {
-    let line = refusal_line(refusal);
-    if files::write_first(rt, output, &line, 10) {
-        return Ending::Refused(refusal);
-    }
-    Ending::WriteFailed
+    streams.write(&refusal_line(refusal))?;
+    Err(Stopped::Refused(refusal))
 }
 
 // `refused N` and the line's end.

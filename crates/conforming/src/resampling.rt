@@ -4,8 +4,9 @@ ghost use Rattle.std.specs.Prelude.{◌≤◌};
 ghost use Rattle.sizes.specs.Sizes.{InLimits};
 ghost use Rattle.conforming.specs.Endings.{Ends};
 
-use crate::files::Next;
-use crate::{Ending, files};
+use crate::Stopped;
+use crate::files::Streams;
+use pcm::Rates;
 use resampler::ResamplerState;
 use stages::Kept;
 use std::io::{Read, Write};
@@ -27,175 +28,109 @@ const TEXT: usize = 98306;
 // Half of the longest filter, and more than the samples of a read.
 const SAMPLES: usize = 3840;
 
-// What a turn leaves: what is kept, and what comes next.
-#[derive(Clone, Copy)]
-pub struct Turned {
-    pub kept: Kept,
-    pub next: Next,
+// The room in which a file is resampled: what is lent to the resampler, and the blocks around it. It is
+// some 375 KB, made once, and nothing of it grows with the file.
+#[derive(Drop)]
+struct Desk {
+    mem: [f32; HISTORY],
+    coefs: [f32; COEFFICIENTS],
+    bytes: [u8; READ],
+    samples: [f32; SAMPLES],
+    out: [f32; OUTPUTS],
+    text: [u8; TEXT],
 }
 
-// Reads once behind the byte held, and writes what the whole samples lead to.
-fn resample_some<R: Read, W: Write>(
-    rt: &impl Eprint,
-    input: &mut R,
-    output: &mut W,
-    kept: Kept,
-    mem: &mut [f32; HISTORY],
-    coefs: &[f32; COEFFICIENTS],
-    bytes: &mut [u8; READ],
-    samples: &mut [f32; SAMPLES],
-    out: &mut [f32; OUTPUTS],
-    text: &mut [u8; TEXT],
-) -> Turned
-    requires { kept.held ≤ 1 }
-    ensures { result.kept.held ≤ 1 }
-{
-    let held = kept.held;
-    let got = files::read_behind(rt, input, bytes, held);
-    if got.count == 0 {
-        return nothing_read(kept, got.failed);
+impl Desk {
+    // The state for these rates. Its filter is at most 7,680 long, so that half of it fits the samples.
+    fn open(&mut self, rates: Rates) -> ResamplerState
+        requires { InLimits rates.source × InLimits rates.target }
+        ensures { result.filt_len ≤ 7680 }
+    {
+        stages::open(rates.source, rates.target, &mut self.mem, &mut self.coefs)
     }
-    let fed = stages::feed(
-        kept,
-        mem,
-        coefs,
-        bytes,
-        held + got.count,
-        samples,
-        out,
-        text,
-    );
-    let size = fed.size;
-    let next = files::after_write(files::write_first(rt, output, text, size));
-    Turned { kept: fed, next }
+
+    // Reads once behind the byte held, and writes what the whole samples lead to. Answers how many bytes
+    // the read brought.
+    fn feed<E: Eprint, R: Read, W: Write>(
+        &mut self,
+        streams: &mut Streams<E, R, W>,
+        kept: &mut Kept,
+    ) -> Result<usize, Stopped>
+        requires { kept.old.held ≤ 1 }
+        ensures held_to { kept.new.held ≤ 1 }
+        ensures ends { Ends result }
+    {
+        let held = kept.held;
+        let bytes = &mut self.bytes[..];
+        let count = streams.read(&mut bytes[held..])?;
+        if count == 0 {
+            return Ok(0);
+        }
+        let size = stages::feed(
+            kept,
+            &mut self.mem,
+            &self.coefs,
+            &mut bytes[..held + count],
+            &mut self.samples,
+            &mut self.out,
+            &mut self.text,
+        );
+        streams.write(&self.text[..size])?;
+        Ok(count)
+    }
+
+    // Where all was read, the zeros that close a recording go through, if any sample came. An odd byte
+    // that is still held is dropped.
+    fn close<E: Eprint, R: Read, W: Write>(
+        &mut self,
+        streams: &mut Streams<E, R, W>,
+        kept: Kept,
+        filt_len: u32,
+    ) -> Result<(), Stopped>
+        requires { filt_len ≤ 7680 }
+        ensures { Ends result }
+    {
+        let closed = stages::close(
+            kept,
+            filt_len,
+            &mut self.mem,
+            &self.coefs,
+            &mut self.samples,
+            &mut self.out,
+            &mut self.text,
+        );
+        streams.write(&self.text[..closed.size])
+    }
 }
 
-// After a read that brought nothing an odd byte is dropped.
-fn nothing_read(kept: Kept, failed: bool) -> Turned
-    ensures { result.kept.held ≤ 1 }
-{
-    let state = kept.state;
-    let next = files::after_nothing(failed);
-    let whole = Kept {
-        state,
-        held: 0,
-        came: kept.came,
-        size: 0,
-    };
-    Turned { kept: whole, next }
-}
-
-// The state, and the filter's length with it: at most 7,680, so that half of it fits the samples.
-fn resample_open(
-    source: u32,
-    target: u32,
-    mem: &mut [f32; HISTORY],
-    coefs: &mut [f32; COEFFICIENTS],
-) -> ResamplerState
-    requires { InLimits source × InLimits target }
-    ensures { result.filt_len ≤ 7680 }
-{
-    stages::open(source, target, mem, coefs)
-}
-
-// Where all was read, the zeros that close a recording go through, if any sample came.
-fn resample_close<W: Write>(
-    rt: &impl Eprint,
-    output: &mut W,
-    kept: Kept,
-    filt_len: u32,
-    mem: &mut [f32; HISTORY],
-    coefs: &[f32; COEFFICIENTS],
-    samples: &mut [f32; SAMPLES],
-    out: &mut [f32; OUTPUTS],
-    text: &mut [u8; TEXT],
-) -> Ending
-    requires { filt_len ≤ 7680 }
+// The room, the first rate, the reads, and then the zeros. The turns are counted, as where bytes are
+// copied.
+pub fn resample<E: Eprint, R: Read, W: Write>(
+    streams: &mut Streams<E, R, W>,
+    rates: Rates,
+) -> Result<(), Stopped>
+    requires { InLimits rates.source × InLimits rates.target }
     ensures { Ends result }
 {
-    let closed = stages::close(kept, filt_len, mem, coefs, samples, out, text);
-    let size = closed.size;
-    if files::write_first(rt, output, text, size) {
-        return Ending::Conformed;
-    }
-    Ending::WriteFailed
-}
-
-// Reads to the end, or to what the system refuses. The turns count down, as where bytes are copied.
-fn resample_all<R: Read, W: Write>(
-    rt: &impl Eprint,
-    input: &mut R,
-    output: &mut W,
-    state: ResamplerState,
-    mem: &mut [f32; HISTORY],
-    coefs: &[f32; COEFFICIENTS],
-    samples: &mut [f32; SAMPLES],
-    out: &mut [f32; OUTPUTS],
-    text: &mut [u8; TEXT],
-) -> Turned {
-    let mut bytes = [0u8; READ];
+    let mut desk = Desk {
+        mem: [0.0; HISTORY],
+        coefs: [0.0; COEFFICIENTS],
+        bytes: [0; READ],
+        samples: [0.0; SAMPLES],
+        out: [0.0; OUTPUTS],
+        text: [0; TEXT],
+    };
+    let state = desk.open(rates);
+    let filt_len = state.filt_len;
     let mut kept = Kept {
         state,
         held: 0,
         came: false,
-        size: 0,
     };
-    let mut next = Next::More;
-    let mut turns = u64::MAX;
-    while turns > 0 && files::goes_on(next) {
-        let turn = resample_some(
-            rt, input, output, kept, mem, coefs, &mut bytes, samples, out, text,
-        );
-        kept = turn.kept;
-        next = turn.next;
-        turns -= 1;
+    for _ in 0..u64::MAX {
+        if desk.feed(streams, &mut kept)? == 0 {
+            return desk.close(streams, kept, filt_len);
+        }
     }
-    Turned { kept, next }
-}
-
-// The arrays, the first rate, the reads, and then the zeros.
-pub fn resample<R: Read, W: Write>(
-    rt: &impl Eprint,
-    input: &mut R,
-    output: &mut W,
-    source: u32,
-    target: u32,
-) -> Ending
-    requires { InLimits source × InLimits target }
-    ensures { Ends result }
-{
-    let mut mem = [0.0f32; HISTORY];
-    let mut coefs = [0.0f32; COEFFICIENTS];
-    let mut samples = [0.0f32; SAMPLES];
-    let mut out = [0.0f32; OUTPUTS];
-    let mut text = [0u8; TEXT];
-    let state = resample_open(source, target, &mut mem, &mut coefs);
-    let filt_len = state.filt_len;
-    let all = resample_all(
-        rt,
-        input,
-        output,
-        state,
-        &mut mem,
-        &coefs,
-        &mut samples,
-        &mut out,
-        &mut text,
-    );
-    let next = all.next;
-    let Next::Ended = next else {
-        return files::ending_of(next);
-    };
-    let kept = all.kept;
-    resample_close(
-        rt,
-        output,
-        kept,
-        filt_len,
-        &mut mem,
-        &coefs,
-        &mut samples,
-        &mut out,
-        &mut text,
-    )
+    Ok(())
 }

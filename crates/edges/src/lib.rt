@@ -2,16 +2,16 @@
 // and the zeros that follow the last sample.
 #![tactic(auto)]
 
-ghost use Rattle.std.specs.Prelude.{◌≡◌, ◌%◌, ◌≤◌, length, take};
+ghost use Rattle.std.specs.Prelude.{◌≡◌, ◌%◌, length, take};
 ghost use Rattle.edges.specs.Edges.{odd_of, closing_zeros};
 
-// Puts an odd last byte of the first n to the front, for the next block to begin with. Answers how
-// many bytes that is.
-pub fn keep_odd(bytes: &mut [u8], n: usize) -> usize
-    requires { n ≤ length bytes.old }
-    ensures bytes_after { take result bytes.new ≡ odd_of (take n bytes.old) }
-    ensures value { result ≡ n % 2 }
+// Puts an odd last byte of a block to its front, for the next block to begin with. Answers how many
+// bytes that is.
+pub fn keep_odd(bytes: &mut [u8]) -> usize
+    ensures bytes_after { take result bytes.new ≡ odd_of bytes.old }
+    ensures value { result ≡ length bytes.old % 2 }
 {
+    let n = bytes.len();
     if n % 2 == 0 {
         return 0;
     }

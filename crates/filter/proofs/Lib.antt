@@ -1,6 +1,6 @@
--- Laws that belong to no one function. `Entries` and `Settings` are for other crates too. Assumes nothing.
+-- Laws that belong to no one function. `Settings` is for other crates too. Assumes nothing.
 mod Shifted
 mod Coordinates
 mod Mirrors
-pub mod Entries
+mod Entries
 pub mod Settings

@@ -1,53 +1,52 @@
--- The entry that a mirror image takes: it is written already, it is the coefficient at its own coordinate, and neither coordinate is a NaN.
+-- Entry k of a setting's table in the loop that writes it: what it finds written, and that a mirror image among that is the coefficient at its own coordinate.
 -- Assumes nothing.
-use mathlib.Core.Path.{◌≡◌, ◌∙◌}
-use mathlib.Core.List.{List}
-use Prim.Native.Nat.{ℕ, ◌+◌, ◌*◌, ◌/◌, ◌%◌, ◌≤◌, ◌<◌}
-use native.Mathlib.Nat.{add-zero, div-lt_iff_lt-mul, mul-le-mul_right, mul-add-div_right, mul-add-mod_self_right, mod-eq_of_lt, div-eq_of_lt, div-le_self, mod-le}
+use mathlib.Core.Path.{◌≡◌, sym, ap, ◌∙◌, subst}
+use mathlib.Core.List.{List, ◌++◌}
+use Prim.Native.Nat.{ℕ, ◌+◌, ◌≤◌, ◌<◌}
+use native.Mathlib.Nat.{zero-add}
 use native.Mathlib.Omega.{arith}
-use lib.ListN.{get_or}
+use lib.ListN.{length, take, drop, set, get_or, get_or-append}
+use lib.Seq.{paste, length_paste_head, get_or-take}
 use lib.Ieee.{Float, nan}
-use Rattle.sinc.specs.Sinc.{MirrorFits, sinc_at}
-use Rattle.filter.specs.Tables.{NextFits, direct_x, direct_entry, interpolated_x, interpolated_entry}
-use Rattle.filter.proofs.Coordinates.{direct_real, interpolated_real}
+use Rattle.history.proofs.Pasted.{Pasted, goes_on}
+use Rattle.rates.specs.declared.Setting.{Setting}
+use Rattle.sinc.specs.Sinc.{MirrorFits}
+use Rattle.filter.specs.Settings.{table_of, coordinate_of, entry_of, SettingFits, NextFits}
+use Rattle.filter.proofs.Settings.{length_table, get_or_table, coordinate_real}
 
--- ---- the row and the column of an entry, and back
-pub row_within : (n den k : ℕ) → 0 < n → k < n * den → k / n < den
-row_within n den k some l = (div-lt_iff_lt-mul {k = n} {x = k} {y = den} some).1 (omega arith)
+-- where k entries are pasted, the next one finds them there
+get_or_pasted : (s d : List Float) (k i : ℕ) → k ≤ length s → i < k → get_or (paste d 0 s k) i nan ≡ get_or s i nan
+get_or_pasted s d k i long h =
+    get_or-append (take 0 d ++ take k s) (drop (0 + k) d) nan i (omega (arith, length_paste_head d 0 s k (omega arith) long))
+    ∙ get_or-take k s i nan h
 
-module _ (n den row column : ℕ) (r : row < den) (l : column < n) where
-  pub spot_within : row * n + column < n * den
-  spot_within =
-      let e : (row + 1) * n ≤ den * n = mul-le-mul_right n (omega arith) in
-      omega arith
-
-  direct_at : (cutoff : Float) → direct_entry cutoff n den (row * n + column) ≡ sinc_at cutoff (direct_x n den row column) n
-  unfolding direct_entry
-  direct_at cutoff =
-      let some : 0 < n = omega arith in
-      rw (mul-add-div_right some row column, div-eq_of_lt l, add-zero row, mul-add-mod_self_right row n column, mod-eq_of_lt l)
-
-module _ (cutoff : Float) (n m k : ℕ) (coefs : List Float) (x y : Float) where
-  pub direct_mirror : NextFits (direct_entry cutoff n m) n m (n * m) k coefs → x ≡ direct_x n m (k / n) (k % n)
-      → (row column : ℕ) → row < m → column < n → row * n + column < k → y ≡ direct_x n m row column
-      → MirrorFits cutoff x n y (get_or coefs (row * n + column) nan)
-  direct_mirror h x-is row column r l before y-is =
-      let e = h.entry in
+module _ (s : Setting) (d mem : List Float) (k : ℕ) (h : SettingFits s (length d)) (p : Pasted d 0 (table_of s) s.coefs mem k) (l : k < s.coefs) where
+  pub next_fits : NextFits s k mem
+  next_fits =
+      let e = length_table s (length d) h in
       record {
-        n_some = e.n_some;
-        x_real = rw x-is (direct_real n m (k / n) (k % n) e.m_some e.n_exact e.m_exact (omega (arith, div-le_self k n)) (omega (arith, mod-le k n)));
-        y_real = rw y-is (direct_real n m row column e.m_some e.n_exact e.m_exact (omega arith) (omega arith));
-        is_known = rw y-is (h.written (row * n + column) before ∙ direct_at n m row column r l cutoff);
+        room = omega (arith, p.same, h.room);
+        more = l;
+        written =
+            λ i before.
+            ap (λ (c : List Float). get_or c i nan) p.so_far
+            ∙ get_or_pasted (table_of s) d k i (omega arith) before
+            ∙ get_or_table s (length d) h i (omega arith);
       }
 
-  pub interpolated_mirror : (count : ℕ) → NextFits (interpolated_entry cutoff n m) n m count k coefs → x ≡ interpolated_x n m k
-      → (i : ℕ) → i < k → y ≡ interpolated_x n m i → MirrorFits cutoff x n y (get_or coefs i nan)
-  unfolding interpolated_entry
-  interpolated_mirror count h x-is i before y-is =
-      let e = h.entry in
-      record {
-        n_some = e.n_some;
-        x_real = rw x-is (interpolated_real n m k e.m_some e.n_exact e.m_exact e.k_exact);
-        y_real = rw y-is (interpolated_real n m i e.m_some e.n_exact e.m_exact (omega arith));
-        is_known = rw y-is (h.written i before);
-      }
+  pub stored : (v : Float) → v ≡ entry_of s k → Pasted d 0 (table_of s) s.coefs (set mem k v) (k + 1)
+  stored v is =
+      let e = length_table s (length d) h in
+      subst (λ (i : ℕ). Pasted d 0 (table_of s) s.coefs (set mem i v) (k + 1)) (zero-add k)
+      (goes_on d 0 (table_of s) s.coefs p nan (is ∙ sym (get_or_table s (length d) h k l)) l (omega (arith, h.room)) (omega arith))
+
+pub mirror_fits : (s : Setting) (k : ℕ) (coefs : List Float) (x y : Float) (m : ℕ) → SettingFits s s.coefs → NextFits s k coefs
+    → x ≡ coordinate_of s k → m < k → y ≡ coordinate_of s m → MirrorFits s.cutoff x s.filt_len y (get_or coefs m nan)
+unfolding entry_of
+mirror_fits s k coefs x y m f h x-is before y-is =
+    record {
+      n_some = f.n_some;
+      x_real = rw x-is (coordinate_real s s.coefs f k h.more);
+      y_real = rw y-is (coordinate_real s s.coefs f m (omega (arith, h.more)));
+      is_known = rw y-is (h.written m before);
+    }

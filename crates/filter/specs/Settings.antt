@@ -1,6 +1,7 @@
 -- Document 01, "Setting a rate" and "Coefficients": the table that a setting has, and the coordinates of its entries. Assumes nothing.
-use Rattle.std.specs.Prelude.{◌≡◌, List, [], ℕ, ◌/◌, ◌%◌, ◌^◌, ◌≤◌, ◌<◌, Float}
+use Rattle.std.specs.Prelude.{◌≡◌, List, [], length, get_or, ℕ, ◌/◌, ◌%◌, ◌^◌, ◌≤◌, ◌<◌, Float}
 use Rattle.std.specs.Float.{nan}
+use Rattle.sinc.specs.Sinc.{sinc_at}
 use Rattle.rates.specs.Setting.{coefficients_of}
 use Rattle.rates.specs.declared.Kernel.{Kernel}
 use Rattle.rates.specs.declared.Kernel.TheVariants.{Unset, Direct, Interpolated}
@@ -29,6 +30,11 @@ unfoldable pub coordinate_of : Setting → ℕ → Float
 unfolding kernel_x
 coordinate_of s k = kernel_x s.kernel s.filt_len s.oversample s.den k
 
+-- entry k of a setting's table: the coefficient at its coordinate
+unfoldable pub entry_of : Setting → ℕ → Float
+unfolding coordinate_of
+entry_of s k = sinc_at s.cutoff (coordinate_of s k) s.filt_len
+
 -- what its table asks of a setting, and of the length of the slice that it is written to; any sane row and two rates in limits give such a setting, as `proofs/Settings.antt` proves
 pub record SettingFits (s : Setting) (length : ℕ) : Type 0 where
   pub n_some : 0 < s.filt_len
@@ -37,3 +43,9 @@ pub record SettingFits (s : Setting) (length : ℕ) : Type 0 where
   pub count : s.coefs ≡ coefficients_of s.kernel s.filt_len s.oversample s.den
   pub exact : s.coefs ≤ 2 ^ 24
   pub room : s.coefs ≤ length
+
+-- what entry k of the table asks where those below it are written to coefs already
+pub record NextFits (s : Setting) (k : ℕ) (coefs : List Float) : Type 0 where
+  pub room : s.coefs ≤ length coefs
+  pub more : k < s.coefs
+  pub written : (i : ℕ) → i < k → get_or coefs i nan ≡ entry_of s i

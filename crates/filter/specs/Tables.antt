@@ -1,6 +1,6 @@
 -- Document 01, "Coefficients": the coordinates, each operation in f32, and the two tables. Assumes nothing.
-use Rattle.std.specs.Prelude.{ℕ, zero, suc, ◌+◌, ◌*◌, ◌/◌, ◌%◌, ◌^◌, ◌≤◌, ◌<◌, ◌≡◌, List, [], ◌∷◌, ◌++◌, length, get_or, pos, ◌-ℤ◌, Float}
-use Rattle.std.specs.Float.{nan, binary32}
+use Rattle.std.specs.Prelude.{ℕ, zero, suc, ◌+◌, ◌*◌, ◌/◌, ◌%◌, List, [], ◌∷◌, ◌++◌, pos, ◌-ℤ◌, Float}
+use Rattle.std.specs.Float.{binary32}
 use Rattle.std.specs.Float.Ieee.{of_int}
 use Rattle.math.specs.Operators.{◌+ᶠ◌, ◌-ᶠ◌, ◌/ᶠ◌}
 use Rattle.math.specs.Numerals.{as_f32}
@@ -34,26 +34,3 @@ direct_table cutoff n den = entries (direct_entry cutoff n den) (n * den)
 -- n * oversample entries, with four more before and four after them
 unfoldable pub interpolated_table : Float → ℕ → ℕ → List Float
 interpolated_table cutoff n oversample = entries (interpolated_entry cutoff n oversample) (n * oversample + 8)
-
--- what entry k asks of its numbers, m being den or oversample: f32 holds every whole number up to 2 ^ 24
-pub record EntryFits (n m k : ℕ) : Type 0 where
-  pub n_some : 0 < n
-  pub m_some : 0 < m
-  pub n_exact : n ≤ 2 ^ 24
-  pub m_exact : m ≤ 2 ^ 24
-  pub k_exact : k ≤ 2 ^ 24
-
--- what entry k of a table f 0, f 1, .. of count entries asks where those below it are written to coefs already
-pub record NextFits (f : ℕ → Float) (n m count k : ℕ) (coefs : List Float) : Type 0 where
-  pub entry : EntryFits n m k
-  pub more : k < count
-  pub exact : count ≤ 2 ^ 24
-  pub room : k ≤ length coefs
-  pub written : (i : ℕ) → i < k → get_or coefs i nan ≡ f i
-
--- what a table of count entries asks of its numbers, and of the length of the slice that it is written to
-pub record TableFits (n m count length : ℕ) : Type 0 where
-  pub n_some : 0 < n
-  pub m_some : 0 < m
-  pub exact : count ≤ 2 ^ 24
-  pub room : count ≤ length

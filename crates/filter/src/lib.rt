@@ -8,22 +8,18 @@ ghost use Rattle.std.specs.Prelude.{◌≡◌, length};
 ghost use Rattle.std.proofs.Math.Seq.{paste};
 ghost use Rattle.filter.specs.Settings.{SettingFits, table_of};
 
-use rates::{Kernel, Setting};
-use tables::{not_use_direct, use_direct};
+use rates::Setting;
+use tables::Table;
 
-// Writes the table of a setting to the first entries of coefs. What lies past it stays as it was:
-// of an older table that was longer the rest is left, where the Rust fills it too. Without a kernel
-// nothing is written.
+// Writes the table of a setting to the first entries of coefs: the Rust's `use_direct` and
+// `not_use_direct`. What lies past it stays as it was: of an older table that was longer the rest is
+// left, where the Rust fills it too. Without a kernel nothing is written.
 pub fn fill_table(coefs: &mut [f32], setting: Setting)
     requires { SettingFits setting (length coefs.old) }
     ensures { coefs.new ≡ paste coefs.old 0 (table_of setting) setting.coefs }
 {
-    let kernel = setting.kernel;
-    match kernel {
-        Kernel::Unset => {}
-        Kernel::Direct => use_direct(coefs, setting.cutoff, setting.filt_len, setting.den),
-        Kernel::Interpolated => {
-            not_use_direct(coefs, setting.cutoff, setting.filt_len, setting.oversample)
-        }
+    // By index, since an entry may be taken from those that are written already.
+    for k in 0..setting.coefs {
+        coefs[k as usize] = Table { setting }.entry(coefs, k);
     }
 }

@@ -1,10 +1,10 @@
-// The two tables, each written to the first entries of a lent slice; what lies past them stays as
-// it was. Nothing is said of a slice that is too short, or of numbers that an f32 does not hold: no
-// caller has them.
-ghost use Rattle.std.specs.Prelude.{◌≡◌, ◌+◌, ◌*◌, ◌^◌, ◌≤◌, ◌<◌, length};
-ghost use Rattle.std.proofs.Math.Seq.{paste};
-ghost use Rattle.filter.specs.Tables.{NextFits, TableFits, direct_x, interpolated_x, direct_entry, interpolated_entry, direct_table, interpolated_table};
+// The entries of the two tables, direct and interpolated: where each lies, which one lies opposite to
+// it, and its coefficient. Nothing is said of numbers that an f32 does not hold: no setting has them.
+ghost use Rattle.std.specs.Prelude.{◌≡◌, ◌^◌, ◌≤◌, ◌<◌, IfSome};
+ghost use Rattle.filter.specs.Tables.{direct_x, interpolated_x};
+ghost use Rattle.filter.specs.Settings.{SettingFits, NextFits, coordinate_of, entry_of};
 
+use rates::{Kernel, Setting};
 use sinc::{sinc, sinc_by_mirror};
 
 // The coordinate of row i, column j of the direct table.
@@ -24,84 +24,61 @@ fn interpolated_x(n: u32, oversample: u32, i: u32) -> f32
     (casts::small(i) - 4.0) / casts::small(oversample) - casts::small(n) / 2.0
 }
 
-// A place in the direct table.
+// A setting with a kernel or without one, whose table's coordinates an f32 holds.
 #[derive(Clone, Copy)]
-struct Spot {
-    row: u32,
-    column: u32,
+pub struct Table {
+    pub setting: Setting,
+    ghost fits: { SettingFits setting setting.coefs },
 }
 
-// Where the direct table has the negated coordinate of row i, column j, as far as f32 has both
-// exactly. The last column of row 0 has none: its own place stands for it. Only that the place lies
-// in the table is promised: the caller tests what it finds there.
-fn mirror_of(n: u32, den: u32, i: u32, j: u32) -> Spot
-    requires { (i < den) × (j < n) }
-    ensures { (result.row < den) × (result.column < n) }
-{
-    if 0 < i {
-        return Spot {
-            row: den - i,
-            column: n - 1 - j,
-        };
+impl Table {
+    // The coordinate of entry k. The direct table goes row after row, each of n entries. Without a
+    // kernel there is no entry, and a NaN stands for its coordinate.
+    fn coordinate(self, k: u32) -> f32
+        requires { k < self.setting.coefs }
+        ensures { result ≡ coordinate_of self.setting k }
+    {
+        let n = self.setting.filt_len;
+        match self.setting.kernel {
+            Kernel::Unset => f32::NAN,
+            Kernel::Direct => direct_x(n, self.setting.den, k / n, k % n),
+            Kernel::Interpolated => interpolated_x(n, self.setting.oversample, k),
+        }
     }
-    if j + 1 < n {
-        return Spot {
-            row: 0,
-            column: n - 2 - j,
-        };
-    }
-    Spot { row: i, column: j }
-}
 
-// Row after row: a row has n entries. Where the entry at the negated coordinate is written already,
-// it is the same.
-fn direct_entry(coefs: &[f32], cutoff: f32, n: u32, den: u32, k: u32) -> f32
-    requires { NextFits (direct_entry cutoff n den) n den (n * den) k coefs.now }
-    ensures { result ≡ direct_entry cutoff n den k }
-{
-    let i = k / n;
-    let j = k % n;
-    let x = direct_x(n, den, i, j);
-    let mirror = mirror_of(n, den, i, j);
-    let m = mirror.row * n + mirror.column;
-    if m < k {
-        let y = direct_x(n, den, mirror.row, mirror.column);
-        return sinc_by_mirror(cutoff, x, n, y, coefs[m as usize]);
+    // The entry that has the negated coordinate of entry k, as far as f32 has both exactly. In a
+    // direct table row 0 is its own mirror image but for its last entry, and the rows after it
+    // together are theirs; in an interpolated one every entry but the first has one. Only that the
+    // entry lies in the table is promised: the caller tests what it finds there.
+    fn mirror_of(self, k: u32) -> Option<u32>
+        requires { k < self.setting.coefs }
+        ensures { IfSome result (λ m. m < self.setting.coefs) }
+    {
+        let n = self.setting.filt_len;
+        let coefs = self.setting.coefs;
+        match self.setting.kernel {
+            Kernel::Direct if k < n => n.checked_sub(k + 2),
+            Kernel::Direct => Some(coefs + n - 1 - k),
+            Kernel::Interpolated if 0 < k => Some(coefs - k),
+            Kernel::Unset | Kernel::Interpolated => None,
+        }
     }
-    sinc(cutoff, x, n)
-}
 
-// The table is its own mirror image, end to end, as far as f32 has its coordinates exactly: so from
-// its middle on an entry may be written already.
-fn interpolated_entry(coefs: &[f32], cutoff: f32, n: u32, oversample: u32, i: u32) -> f32
-    requires { NextFits (interpolated_entry cutoff n oversample) n oversample (n * oversample + 8) i coefs.now }
-    ensures { result ≡ interpolated_entry cutoff n oversample i }
-{
-    let x = interpolated_x(n, oversample, i);
-    let m = n * oversample + 8 - i;
-    if m < i {
-        let y = interpolated_x(n, oversample, m);
-        return sinc_by_mirror(cutoff, x, n, y, coefs[m as usize]);
-    }
-    sinc(cutoff, x, n)
-}
-
-// Writes the direct table: n * den entries, and no more where the slice held a longer one.
-pub fn use_direct(coefs: &mut [f32], cutoff: f32, n: u32, den: u32)
-    requires { TableFits n den (n * den) (length coefs.old) }
-    ensures { coefs.new ≡ paste coefs.old 0 (direct_table cutoff n den) (n * den) }
-{
-    for k in 0..n * den {
-        coefs[k as usize] = direct_entry(coefs, cutoff, n, den, k);
-    }
-}
-
-// Writes the interpolated table: n * oversample + 8 entries.
-pub fn not_use_direct(coefs: &mut [f32], cutoff: f32, n: u32, oversample: u32)
-    requires { TableFits n oversample (n * oversample + 8) (length coefs.old) }
-    ensures { coefs.new ≡ paste coefs.old 0 (interpolated_table cutoff n oversample) (n * oversample + 8) }
-{
-    for i in 0..n * oversample + 8 {
-        coefs[i as usize] = interpolated_entry(coefs, cutoff, n, oversample, i);
+    // Entry k, where those below it are written. Where the one at the negated coordinate is among
+    // them, it is the same.
+    pub fn entry(self, coefs: &[f32], k: u32) -> f32
+        requires { NextFits self.setting k coefs.now }
+        ensures { result ≡ entry_of self.setting k }
+    {
+        let n = self.setting.filt_len;
+        let cutoff = self.setting.cutoff;
+        let x = self.coordinate(k);
+        match self.mirror_of(k) {
+            Some(m) if m < k => {
+                let y = self.coordinate(m);
+                sinc_by_mirror(cutoff, x, n, y, coefs[m as usize])
+            }
+            _ => sinc(cutoff, x, n),
+        }
     }
 }

@@ -4,7 +4,7 @@
 // A flat state may hold any numbers. A kernel above 2 is the one thing in it that no state can hold.
 #![tactic(auto)]
 
-ghost use Rattle.std.specs.Prelude.{◌≡◌, ◌≤◌};
+ghost use Rattle.std.specs.Prelude.{◌≡◌, ◌≤◌, IsTrue, OkIff};
 ghost use Rattle.judge.specs.Refusals.{max_call};
 ghost use Rattle.resampler.specs.Answers.{told};
 ghost use Rattle.recording.specs.Totals.{total_told};
@@ -12,8 +12,8 @@ ghost use Rattle.flat.specs.Flat.{kernel_at, flat_of, state_of, is_state, flat_t
 
 use judge::Refusal;
 use rates::Kernel;
-use recording::Total;
-use resampler::Answer;
+use recording::TotalError;
+use resampler::{Answer, Written};
 use state::ResamplerState;
 
 // The highest number that a kernel has.
@@ -22,6 +22,8 @@ const LAST_KERNEL: u32 = 2;
 // What more samples than `closed_total` takes get. Document 01 has no number for it, so this one is far from
 // those that it has.
 const TOO_MANY: u32 = 100;
+
+// The four structs as far as `FlatSizes` are C's, as `include/marshdeck.h` has them: `refusal` stays a number.
 
 // A state, field by field; the kernel is 0 for none, 1 direct, 2 interpolated.
 #[repr(C)]
@@ -72,27 +74,24 @@ pub struct FlatSizes {
     pub coefficients: u32,
 }
 
-// Whether some state has these numbers.
-pub fn is_state(flat: FlatState) -> bool
-    ensures { result ≡ is_state flat }
-{
-    flat.kernel <= LAST_KERNEL
-}
+// That no state has these numbers: no kernel has the number that stands for one among them.
+#[derive(Clone, Copy, PartialEq, Eq)]
+pub struct NoState;
 
 // The kernel with this number; one above 2 is not asked for.
+// No `TryFrom`: `state_of` answers for every number.
 fn kernel_at(number: u32) -> Kernel
     ensures { result ≡ kernel_at number }
 {
-    if number == 0 {
-        return Kernel::Unset;
+    match number {
+        0 => Kernel::Unset,
+        1 => Kernel::Direct,
+        _ => Kernel::Interpolated,
     }
-    if number == 1 {
-        return Kernel::Direct;
-    }
-    Kernel::Interpolated
 }
 
-// The state with these numbers.
+// The state with these numbers, for a kernel above 2 too. `try_from` asks first whether there is one. Here
+// and in `from` field by field: C's struct is another type.
 pub fn state_of(flat: FlatState) -> ResamplerState
     ensures { result ≡ state_of flat }
 {
@@ -116,28 +115,42 @@ pub fn state_of(flat: FlatState) -> ResamplerState
     }
 }
 
+impl TryFrom<FlatState> for ResamplerState {
+    type Error = NoState;
+
+    ghost try_from_gives = { λ flat result. OkIff result (IsTrue (is_state flat)) (state_of flat) };
+
+    fn try_from(flat: FlatState) -> Result<ResamplerState, NoState> {
+        if flat.kernel > LAST_KERNEL {
+            return Err(NoState);
+        }
+        Ok(state_of(flat))
+    }
+}
+
 // The numbers of a state.
-fn flat_of(state: ResamplerState) -> FlatState
-    ensures { result ≡ flat_of state }
-{
-    let kernel = state.kernel;
-    FlatState {
-        target: state.target,
-        source: state.source,
-        num: state.num,
-        den: state.den,
-        filt_len: state.filt_len,
-        mem_alloc_size: state.mem_alloc_size,
-        buffer_size: state.buffer_size,
-        int_advance: state.int_advance,
-        frac_advance: state.frac_advance,
-        cutoff: state.cutoff,
-        oversample: state.oversample,
-        started: state.started,
-        kernel: state::kernel_number(kernel),
-        last_sample: state.last_sample,
-        samp_frac_num: state.samp_frac_num,
-        magic_samples: state.magic_samples,
+impl From<ResamplerState> for FlatState {
+    ghost from_gives = { λ state flat. flat ≡ flat_of state };
+
+    fn from(state: ResamplerState) -> FlatState {
+        FlatState {
+            target: state.target,
+            source: state.source,
+            num: state.num,
+            den: state.den,
+            filt_len: state.filt_len,
+            mem_alloc_size: state.mem_alloc_size,
+            buffer_size: state.buffer_size,
+            int_advance: state.int_advance,
+            frac_advance: state.frac_advance,
+            cutoff: state.cutoff,
+            oversample: state.oversample,
+            started: state.started,
+            kernel: state::kernel_number(state.kernel),
+            last_sample: state.last_sample,
+            samp_frac_num: state.samp_frac_num,
+            magic_samples: state.magic_samples,
+        }
     }
 }
 
@@ -154,45 +167,46 @@ pub fn no_state(flat: FlatState) -> FlatAnswer
 }
 
 // What an answer tells. A call reads and writes at most 16,777,216 samples, so no count is cut.
+// No `From`: that both counts fit is asked for, and a `From` asks for nothing.
 pub fn flat_answer(answer: Answer) -> FlatAnswer
     requires { ((told answer).consumed ≤ max_call) × ((told answer).written ≤ max_call) }
     ensures { result ≡ flat_told (told answer) }
 {
     match answer {
-        Answer::Refused(refusal, state) => {
-            FlatAnswer {
-                refusal: refusal.number(),
-                consumed: 0,
-                written: 0,
-                state: flat_of(state),
-            }
-        }
-        Answer::Accepted(state, consumed, written) => FlatAnswer {
+        Ok(accepted) => FlatAnswer {
             refusal: 0,
-            consumed: consumed.0 as u32,
-            written: written.0 as u32,
-            state: flat_of(state),
+            consumed: accepted.consumed.0 as u32,
+            written: accepted.written.0 as u32,
+            state: accepted.state.into(),
+        },
+        Err(refused) => FlatAnswer {
+            refusal: refused.refusal.number(),
+            consumed: 0,
+            written: 0,
+            state: refused.state.into(),
         },
     }
 }
 
 // What a total tells.
-pub fn flat_total(total: Total) -> FlatTotal
-    ensures { result ≡ flat_total (total_told total) }
-{
-    match total {
-        Total::Refused(refusal) => FlatTotal {
-            refusal: refusal.number(),
-            total: 0,
-        },
-        Total::TooMany => FlatTotal {
-            refusal: TOO_MANY,
-            total: 0,
-        },
-        Total::Closed(written) => FlatTotal {
-            refusal: 0,
-            total: written.0,
-        },
+impl From<Result<Written, TotalError>> for FlatTotal {
+    ghost from_gives = { λ total flat. flat ≡ flat_total (total_told total) };
+
+    fn from(total: Result<Written, TotalError>) -> FlatTotal {
+        match total {
+            Ok(written) => FlatTotal {
+                refusal: 0,
+                total: written.0,
+            },
+            Err(TotalError::Refused(refusal)) => FlatTotal {
+                refusal: refusal.number(),
+                total: 0,
+            },
+            Err(TotalError::TooMany) => FlatTotal {
+                refusal: TOO_MANY,
+                total: 0,
+            },
+        }
     }
 }
 

@@ -1,3 +1,2 @@
--- Laws that belong to no one function. `Pasted` is for other crates too. Assumes nothing.
+-- Laws of a loop that writes a history's entries one by one, for the crates whose loops do. Assumes nothing.
 pub mod Pasted
-pub mod Upwards

@@ -1,8 +1,10 @@
 // What each call is to do, decided from the state's numbers and the lengths of the lent slices, in
-// document 01's order of refusals.
+// document 01's order of refusals: `Ok` where the call is accepted.
 //
 // No judge takes a slice, so none can read or change a sample, and none changes the state. Each
-// answers for any state and any lengths; only the quality row has to be sane.
+// answers for any state and any lengths; only the quality row has to be sane. That stays a clause:
+// `zero_refused_everywhere` and other theorems of `pinned` speak of every row, sane or not.
+// Row, state and lengths stay apart: the verdicts of specs/ and the theorems on them take each by itself.
 #![tactic(auto)]
 
 ghost use Rattle.std.specs.Prelude.{◌≡◌, ◌≤◌, max};
@@ -20,7 +22,7 @@ const MAX_CALL: usize = 16777216;
 
 // Why a call is refused. `Mark` and `Version` are the program's, about a file's header; no judge here
 // gives them.
-#[derive(Clone, Copy)]
+#[derive(Clone, Copy, Debug, PartialEq, Eq)]
 pub enum Refusal {
     Rate,
     History,
@@ -34,7 +36,7 @@ pub enum Refusal {
 }
 
 impl Refusal {
-    // Document 01's number.
+    // Document 01's number. `u32::from` would be no plainer: it would not say whose number it is.
     pub fn number(self) -> u32
         ensures { result ≡ refusal_number self }
     {
@@ -52,21 +54,14 @@ impl Refusal {
     }
 }
 
-// What becomes of a call: it is refused, or it is accepted.
-#[derive(Clone, Copy)]
-pub enum Verdict {
-    Refuse(Refusal),
-    Accept,
-}
-
 // A new state for a target rate.
-pub fn judge_new(target: u32) -> Verdict
+pub fn judge_new(target: u32) -> Result<(), Refusal>
     ensures { result ≡ new_verdict target }
 {
     if sizes::in_limits(target) {
-        return Verdict::Accept;
+        return Ok(());
     }
-    Verdict::Refuse(Refusal::Rate)
+    Err(Refusal::Rate)
 }
 
 // Setting a source rate. The same rate again is accepted however short the slices are.
@@ -76,27 +71,27 @@ pub fn judge_rate(
     source: u32,
     mem_len: usize,
     coefs_len: usize,
-) -> Verdict
+) -> Result<(), Refusal>
     requires { Sane row }
     ensures { result ≡ rate_verdict row state source mem_len coefs_len }
 {
     if !state.belongs(row) {
-        return Verdict::Refuse(Refusal::State);
+        return Err(Refusal::State);
     }
     if !sizes::in_limits(source) {
-        return Verdict::Refuse(Refusal::Rate);
+        return Err(Refusal::Rate);
     }
     if state.source == source {
-        return Verdict::Accept;
+        return Ok(());
     }
     let setting = Setting::new(row, source, state.target);
     if mem_len < history_after(state.mem_alloc_size, setting.filt_len) as usize {
-        return Verdict::Refuse(Refusal::History);
+        return Err(Refusal::History);
     }
     if coefs_len < setting.coefs as usize {
-        return Verdict::Refuse(Refusal::Coefficients);
+        return Err(Refusal::Coefficients);
     }
-    Verdict::Accept
+    Ok(())
 }
 
 // Processing. An output without room is no reason to refuse; an empty input is.
@@ -107,55 +102,59 @@ pub fn judge_process(
     coefs_len: usize,
     in_len: usize,
     out_len: usize,
-) -> Verdict
+) -> Result<(), Refusal>
     requires { Sane row }
     ensures { result ≡ process_verdict row state mem_len coefs_len in_len out_len }
 {
     if !state.belongs(row) {
-        return Verdict::Refuse(Refusal::State);
+        return Err(Refusal::State);
     }
     if state.source == 0 {
-        return Verdict::Refuse(Refusal::NoRate);
+        return Err(Refusal::NoRate);
     }
     if mem_len < state.mem_alloc_size as usize {
-        return Verdict::Refuse(Refusal::History);
+        return Err(Refusal::History);
     }
     if coefs_len < state.setting().coefs as usize {
-        return Verdict::Refuse(Refusal::Coefficients);
+        return Err(Refusal::Coefficients);
     }
     if in_len == 0 {
-        return Verdict::Refuse(Refusal::EmptyInput);
+        return Err(Refusal::EmptyInput);
     }
     if (MAX_CALL < in_len) | (MAX_CALL < out_len) {
-        return Verdict::Refuse(Refusal::TooLong);
+        return Err(Refusal::TooLong);
     }
-    Verdict::Accept
+    Ok(())
 }
 
 // Resetting. Without a source rate no history is needed yet.
-pub fn judge_reset(row: QualityMapping, state: ResamplerState, mem_len: usize) -> Verdict
+pub fn judge_reset(
+    row: QualityMapping,
+    state: ResamplerState,
+    mem_len: usize,
+) -> Result<(), Refusal>
     requires { Sane row }
     ensures { result ≡ reset_verdict row state mem_len }
 {
     if !state.belongs(row) {
-        return Verdict::Refuse(Refusal::State);
+        return Err(Refusal::State);
     }
     let alloc = state.mem_alloc_size as usize;
     if mem_len < alloc {
-        return Verdict::Refuse(Refusal::History);
+        return Err(Refusal::History);
     }
-    Verdict::Accept
+    Ok(())
 }
 
 // Skipping the zeros that a stream starts with.
-pub fn judge_skip(row: QualityMapping, state: ResamplerState) -> Verdict
+pub fn judge_skip(row: QualityMapping, state: ResamplerState) -> Result<(), Refusal>
     requires { Sane row }
     ensures { result ≡ skip_verdict row state }
 {
     if state.belongs(row) {
-        return Verdict::Accept;
+        return Ok(());
     }
-    Verdict::Refuse(Refusal::State)
+    Err(Refusal::State)
 }
 
 // How long the history is once a filter of this length is set: it never shrinks.
@@ -164,8 +163,5 @@ pub fn history_after(mem_alloc_size: u32, filt_len: u32) -> u32
     ensures { result ≡ max mem_alloc_size (history_needed filt_len) }
 {
     let needed = sizes::history_needed(filt_len);
-    if mem_alloc_size < needed {
-        return needed;
-    }
-    mem_alloc_size
+    mem_alloc_size.max(needed)
 }

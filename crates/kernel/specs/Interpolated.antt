@@ -9,8 +9,7 @@ use Rattle.kernel.specs.Cubic.{cubic_coef}
 abbrev pub tap : ℕ → ℕ → ℕ → ℕ
 tap oversample offset j = 2 + (j + 1) * oversample - offset
 
--- a table of `size` coefficients holds those of n samples. That oversample is at most `size` says something only at n = 0, where nothing else bounds
--- it: the code adds 2 to it before the loop
+-- a table of `size` coefficients holds those of n samples. That oversample is at most `size` says something only at n = 0, where nothing else bounds it
 abbrev pub TapsWithin : ℕ → ℕ → ℕ → ℕ → Type 0
 TapsWithin n oversample offset size = (n * oversample + 8 ≤ size) × (oversample ≤ size) × (offset ≤ oversample)
 

@@ -12,15 +12,14 @@ ghost use Rattle.kernel.specs.Interpolated.{TapsWithin, spread, four_sums, folde
 ghost use Rattle.kernel.specs.Step.{step_of, Reaches};
 
 // One output of a direct row: coefficient times sample, summed from 0.0. With n = 0 it is 0.0.
+// n stands beside the slices: the contract lets both be longer.
 pub fn direct_step(window: &[f32], coefs: &[f32], n: usize) -> f32
     requires { (n ≤ length window.now) × (n ≤ length coefs.now) }
     ensures { result ≡ direct_sum n coefs.now window.now }
 {
     let mut sum: f32 = 0.0;
-    let mut j = 0;
-    while j < n {
-        sum = sum + coefs[j] * window[j];
-        j += 1;
+    for j in 0..n {
+        sum += coefs[j] * window[j];
     }
     sum
 }
@@ -67,8 +66,8 @@ pub fn spread(accum: [f32; 4], curr_in: f32, coefs: &[f32], idx: usize) -> [f32;
     ]
 }
 
-// The four sums, from those of the first `from` samples on to those of the first `to`. The Rust works
-// out each sample's index anew, `2 + (j + 1) * oversample - offset`; here it goes up by oversample.
+// The four sums, from those of the first `from` samples on to those of the first `to`. Its parameters
+// stay as they are: docs/DECISIONS.md names it with what it asks.
 pub fn sums_on(
     sums: [f32; 4],
     window: &[f32],
@@ -84,18 +83,16 @@ pub fn sums_on(
     ensures { result ≡ four_sums oversample offset to coefs.now window.now }
 {
     let mut accum = sums;
-    let mut idx = 2 + (from + 1) * oversample - offset;
-    let mut j = from;
-    while j < to {
+    for j in from..to {
+        let idx = 2 + (j + 1) * oversample - offset;
         let next = spread(accum, window[j], coefs, idx);
         accum = next;
-        idx += oversample;
-        j += 1;
     }
     accum
 }
 
-// One output at an offset with a remainder.
+// One output at an offset with a remainder. The parameters of this and of `step` stay apart:
+// docs/DECISIONS.md and docs/CLAIMS.md name both, with what they ask.
 pub fn interpolate_step(
     window: &[f32],
     coefs: &[f32],

@@ -1,4 +1,5 @@
 -- Laws that belong to no one function. Assumes nothing.
+mod Stepping
 mod Rows
 mod Spots
 mod Adding

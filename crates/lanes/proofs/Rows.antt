@@ -1,19 +1,18 @@
 -- The layout, sample by sample and row by row.
---     row_starts, row_goes_on, row_ends        before the first sample of a row, over one, after the last
---     rows_none, rows_more, rows_all           no row, one more, all
+--     row_goes_on, row_ends        over one sample of a row, after the last
+--     rows_more                    one more row
 -- Assumes nothing.
-use mathlib.Core.Path.{◌≡◌, refl, sym, ap, ◌∙◌}
+use mathlib.Core.Path.{◌≡◌, sym, ap, ◌∙◌}
 use mathlib.Core.Logic.{inl, inr}
 use mathlib.Core.List.{List}
 use Prim.Native.Nat.{ℕ, ◌+◌, ◌*◌, ◌≤◌, ◌<◌}
-use native.Mathlib.Nat.{add-mul, one-mul, zero-mul, ne_of_lt, mul-le-mul_right, lt_of_mul-lt-mul_right}
+use native.Mathlib.Nat.{add-mul, one-mul, ne_of_lt, mul-le-mul_right, lt_of_mul-lt-mul_right}
 use native.Mathlib.Omega.{arith}
 use lib.ListN.{length, set, length-set}
 use lib.Seq.{get_or-set_same, get_or-set_other}
 use lib.Ieee.{Float, nan}
 use Rattle.math.proofs.Closest.{below_or_not}
 use Rattle.kernel.specs.Sums.{at}
-use Rattle.lanes.specs.Layout.{Woven, LayoutFits}
 use Rattle.lanes.specs.Inner.{RowFits, RowLaid}
 
 -- the first k samples of a row stand in it; the next is sample t, for entry i
@@ -26,17 +25,6 @@ pub record RowLaying (before after window : List Float) (start from num i t : �
   pub others : (e : ℕ) → e < start → at after e ≡ at before e
 
 module _ (before window : List Float) (start from num : ℕ) where
-  pub row_starts : RowLaying before before window start from num start from
-  row_starts =
-      record {
-        k = 0;
-        entry = omega arith;
-        sample = omega (arith, zero-mul num);
-        long = refl;
-        these = λ q h. absurd (omega arith);
-        others = λ e h. refl;
-      }
-
   module _ {after : List Float} {i t : ℕ} (r : RowLaying before after window start from num i t) where
     -- the next sample has an entry
     pub row_inside : {reach size : ℕ} → RowFits start from num reach size (length window) → t < reach → i < size
@@ -79,25 +67,9 @@ pub row_end : (num stride r : ℕ) → r < num → r * stride + stride ≤ num *
 row_end num stride r h = omega (arith, mul-le-mul_right {m = r + 1} {n = num} stride (omega arith), add-mul r 1 stride, one-mul stride)
 
 module _ (window : List Float) (num stride reach : ℕ) where
-  pub rows_none : (x : List Float) → RowsWoven x window num stride reach 0
-  rows_none x = record { each = λ r q h l. absurd (omega arith) }
-
-  pub rows_all : {x : List Float} → RowsWoven x window num stride reach num → Woven x window num stride reach
-  rows_all w = record { each = w.each }
-
   -- a sample of row r stands in one of its columns
   column_low : (r q : ℕ) → reach ≤ stride * num → q * num + r < reach → q < stride
   column_low r q h l = lt_of_mul-lt-mul_right num (omega arith)
-
-  pub row_fits : {size : ℕ} (r : ℕ) {start : ℕ} → LayoutFits num stride reach size (length window) → r < num → start ≡ r * stride
-      → RowFits start r num reach size (length window)
-  row_fits {size} r {start} f h e =
-      record {
-        num_some = omega arith;
-        num_to = f.num_to;
-        entries = λ q l. omega (arith, column_low r q f.columns (omega arith), row_end num stride r h, f.rows);
-        held = f.held;
-      }
 
   pub rows_more : {before after : List Float} (r : ℕ) {start : ℕ} → reach ≤ stride * num → start ≡ r * stride
       → RowsWoven before window num stride reach r → RowLaid before after window start r num reach → RowsWoven after window num stride reach (r + 1)

@@ -1,10 +1,12 @@
 -- Where a tap stands in the layout, and where the next one does. Assumes nothing.
 use mathlib.Core.Path.{◌≡◌, sym, ap, ◌∙◌}
 use Prim.Native.Nat.{ℕ, ◌+◌, ◌*◌, ◌-◌, ◌/◌, ◌%◌, ◌≤◌, ◌<◌}
-use native.Mathlib.Nat.{add_assoc, add-mul, one-mul, zero-mul, mod-lt, div-add-mod', div-eq_of_lt-le, mul-le-mul_right, lt_of_mul-lt-mul_right, le_of_mul-le-mul_right}
+use native.Mathlib.Nat.{add_assoc, add-mul, one-mul, zero-mul, mod-lt, div-add-mod', div-eq_of_lt-le, mul-le-mul_right, lt_of_mul-lt-mul_right}
 use native.Mathlib.Omega.{arith}
 use Rattle.lanes.specs.Inner.{Spotted, TapsFit}
 use Rattle.lanes.specs.declared.Spot.{Spot}
+use Rattle.lanes.specs.declared.Strand.{Strand}
+use Rattle.lanes.specs.declared.Weave.{Weave}
 use Rattle.lanes.proofs.Rows.{row_end}
 
 -- quotient and remainder are known by what they are
@@ -41,24 +43,15 @@ spot_first num stride row column h =
     let d = divided num 0 row {t = row + 0} (omega (arith, zero-mul num)) h in
     record { row = sym d.1; i = rw (d.0, d.1) (omega arith) }
 
--- columns and rows that are worked out lie within the layout
-pub first_to : {num stride n row column coefs size : ℕ} → TapsFit num stride n row column coefs size
-    → (column ≤ stride) × (row * stride + stride ≤ num * stride) × ((num - 1) * stride ≤ num * stride)
-first_to {num} {stride} {n} {row} {column} f = (
-  le_of_mul-le-mul_right {m = column} {n = stride} {k = num} (omega (arith, f.ends)) (omega (arith, f.row_low)),
-  row_end num stride row f.row_low,
-  mul-le-mul_right stride (omega arith),
-)
-
--- and so does every tap
-pub tap_to : {num stride n row column coefs size j : ℕ} {s : Spot} → TapsFit num stride n row column coefs size → Spotted num stride column (row + j) s → j < n
-    → (s.row < num) × (s.row * stride ≤ s.i) × (s.i < num * stride) × (stride ≤ num * stride)
-tap_to {num} {stride} {n} {row} {column} {j = j} {s = s} f p h =
-    let some : 0 < num = omega (arith, f.row_low) in (
-      rw p.row (mod-lt (row + j) some),
-      rw (p.row, p.i) (omega arith),
-      spot_inside num stride p some (omega (arith, f.ends)),
-      omega (arith, mul-le-mul_right {m = 1} {n = num} stride some, one-mul stride),
+-- every tap stands within the layout
+pub tap_to : {w : Weave} {s : Strand} {j : ℕ} {p : Spot} → TapsFit w s → Spotted w.num w.stride s.column (s.row + j) p → j < w.n
+    → (p.row < w.num) × (p.row * w.stride ≤ p.i) × (p.i < w.num * w.stride) × (w.stride ≤ w.num * w.stride)
+tap_to {w} {s} {j = j} {p = p} f h l =
+    let some : 0 < w.num = omega (arith, f.row_low) in (
+      rw h.row (mod-lt (s.row + j) some),
+      rw (h.row, h.i) (omega arith),
+      spot_inside w.num w.stride h some (omega (arith, f.ends)),
+      omega (arith, mul-le-mul_right {m = 1} {n = w.num} w.stride some, one-mul w.stride),
     )
 
 -- the next tap of a window

@@ -1,17 +1,18 @@
 -- Strands of outputs, and the class that they make up.
 --     strand_along, lanes_along                    a strand further on
---     strand_next, taps_fit, column_to             what its next output asks
---     filled_none, filled_some, filled_step        no output, some at once, one more
+--     strand_at, strand_next, column_to            what its outputs ask, and its next one
+--     filled_some                                  some outputs at once
 --     filled_on, lanes_on                          outputs after outputs
---     filled_all, class_lanes, class_steps         all outputs of a class
+--     class_lanes                                  all outputs of a class
 -- Assumes nothing.
 use mathlib.Core.Path.{◌≡◌, refl, sym, ap, ◌∙◌}
 use mathlib.Core.List.{List}
 use Prim.Native.Nat.{ℕ, zero, suc, ◌+◌, ◌*◌, ◌/◌, ◌%◌, ◌^◌, ◌≤◌, ◌<◌}
 use native.Mathlib.Nat.{add-mul, add_assoc, add-zero, zero-mul, mul-one, one-mul, mul_comm, mul-le-mul_left, mul-le-mul_right, mod-lt, div-add-mod'}
 use native.Mathlib.Omega.{arith}
-use lib.ListN.{length, set, drop}
+use lib.ListN.{take, drop}
 use lib.Seq.{get_or-drop}
+use Rattle.std.proofs.lemmas.List.{get_or-take}
 use lib.Ieee.{Float, nan}
 use Rattle.kernel.specs.Sums.{at, sum_to, direct_sum}
 use Rattle.kernel.specs.Step.{step_of}
@@ -19,15 +20,12 @@ use Rattle.kernel.specs.declared.Phase.{Phase}
 use Rattle.kernel.specs.declared.Phase.TheVariants.{Direct}
 use Rattle.lanes.specs.Layout.{Woven}
 use Rattle.lanes.specs.Class.{ClassFits, Classed}
-use Rattle.lanes.specs.Inner.{spot, lane_sum, TapsFit, Strewn, along, StrandFits, LanesFit, lane_of, Begun}
+use Rattle.lanes.specs.Inner.{spot, lane_sum, Strewn, along, StrandFits, LanesFit, lane_of, Begun}
 use Rattle.lanes.specs.declared.Strand.{Strand}
 use Rattle.lanes.specs.declared.Weave.{Weave}
-use Rattle.lanes.proofs.Strewing.{strewn_none, strewn_store, strewn_same, strewn_on, strewn_all, strewn_then}
+use Rattle.lanes.proofs.Strewing.{strewn_same, strewn_on, strewn_then}
 
 -- ---- further on
-
-along_none : (den : ℕ) (s : Strand) → s ≡ along den 0 s
-along_none den s = simp (zero-mul, add-zero)
 
 along_along : (den m j : ℕ) (s : Strand) {t u : Strand} → t ≡ along den m s → u ≡ along den j t → u ≡ along den (m + j) s
 along_along den m j s e h = rw (h, e) (simp (add-mul, add_assoc))
@@ -44,8 +42,14 @@ module _ {w : Weave} {s t : Strand} (m : ℕ) (e : t ≡ along w.den m s) (low :
         ends = rw e (λ k h. rw (add_assoc s.column m k) (f.ends (m + k) (omega (arith, add-mul m k w.den))));
       }
 
-  pub lanes_along : {coefs size out : ℕ} → LanesFit w s coefs size out → LanesFit w t coefs size out
-  lanes_along f = record { strand = strand_along f.strand; row_low = rw e f.row_low; rows = f.rows; table = f.table }
+  pub lanes_along : {out : ℕ} → LanesFit w s out → LanesFit w t out
+  lanes_along f = record { strand = strand_along f.strand; row_low = rw e f.row_low }
+
+-- output m of a strand: its window starts in time, so no number of it is large
+pub strand_at : {w : Weave} {s : Strand} {end out : ℕ} → StrandFits w s end out → (m : ℕ) → s.from + m * w.den < w.count
+    → ((s.column + m) * w.num + s.row + w.n ≤ end) × (s.column + m ≤ end)
+strand_at {w} {s} f m h =
+    (f.ends m h, omega (arith, f.ends m h, mul-le-mul_left {m = 1} {n = w.num} (s.column + m) f.num_some, mul-one (s.column + m)))
 
 -- the next output of a strand: its window starts in time, so no number of it is large
 pub strand_next : {w : Weave} {s : Strand} {end out : ℕ} → StrandFits w s end out → s.from < w.count
@@ -54,20 +58,11 @@ strand_next {w} {s} f h =
     let ends : s.column * w.num + s.row + w.n ≤ _ = rw add-zero at (f.ends 0 (omega (arith, zero-mul w.den))) in
     (ends, omega (arith, mul-le-mul_left {m = 1} {n = w.num} s.column f.num_some, mul-one s.column))
 
--- the taps of the next output stand in the layout
-pub taps_fit : {w : Weave} {s : Strand} {coefs size out : ℕ} → LanesFit w s coefs size out → s.from < w.count
-    → TapsFit w.num w.stride w.n s.row s.column coefs size
-taps_fit f h = record { row_low = f.row_low; rows = f.rows; ends = (strand_next f.strand h).0; table = f.table }
-
--- and its column is one of the layout's
-pub column_to : {w : Weave} {s : Strand} {coefs size out : ℕ} → LanesFit w s coefs size out → s.from < w.count → s.column + 32 ≤ size
-column_to {w} f h = omega (arith, (strand_next f.strand h).1, f.rows, mul_comm w.num w.stride)
+-- its column is one of the layout's
+pub column_to : {w : Weave} {s : Strand} {size out : ℕ} → LanesFit w s out → s.from < w.count → w.num * w.stride + 32 ≤ size → s.column + 32 ≤ size
+column_to {w} f h rows = omega (arith, (strand_next f.strand h).1, rows, mul_comm w.num w.stride)
 
 -- ---- outputs after outputs
-
-pub filled_none : (before : List Float) (w : Weave) (s : Strand) (f : ℕ → Float) → s.from < 2 ^ 62 → Begun before before w s s f
-filled_none before w s f h =
-    record { m = 0; strand = along_none w.den s; from_to = h; out = strewn_none s.from w.den w.count before f }
 
 -- the next m outputs at once
 pub filled_some : {before after : List Float} {w : Weave} {s t : Strand} {f : ℕ → Float} {end out : ℕ} (m : ℕ) → 0 < m → m ≤ 32
@@ -95,24 +90,6 @@ filled_on {w = w} {s = s} {t = t} some p q h =
           (λ l b c. h p.m l p.strand);
     }
 
--- one output more
-pub filled_step : {before after : List Float} {w : Weave} {s t u : Strand} {f : ℕ → Float} {v : Float} → 0 < w.den
-    → Begun before after w s t f → t.from < w.count → t.from < length after → u ≡ along w.den 1 t → u.from < 2 ^ 62
-    → ((m : ℕ) → t ≡ along w.den m s → v ≡ f m) → Begun before (set after t.from v) w s u f
-filled_step {w = w} {s = s} {t = t} some p below h e low g =
-    record {
-      m = p.m + 1;
-      strand = along_along w.den p.m 1 s p.strand e;
-      from_to = low;
-      out = strewn_store s.from w.den w.count p.out (ap (λ (v : Strand). v.from) p.strand) below h (g p.m p.strand) some;
-    }
-
--- the next output of a strand further on is a later one of the strand
-pub step_along : (w : Weave) (phase : Phase) (oversample : ℕ) (coefs window : List Float) (s : Strand) {t : Strand} {v : Float}
-    → v ≡ step_of phase w.n oversample coefs (drop (t.column * w.num + t.row) window)
-    → (m : ℕ) → t ≡ along w.den m s → v ≡ step_of phase w.n oversample coefs (drop ((s.column + m) * w.num + s.row) window)
-step_along w phase oversample coefs window s h m e = rw e at h
-
 -- a lane of a strand further on is a later one of the strand
 lane_along : (w : Weave) (coefs x : List Float) (s : Strand) {t : Strand} (m l : ℕ) → t ≡ along w.den m s → lane_of w coefs x t l ≡ lane_of w coefs x s (m + l)
 lane_along w coefs x s m l e = rw (e, add_assoc s.column m l)
@@ -123,10 +100,6 @@ pub lanes_on : {before between after : List Float} {w : Weave} {s t u : Strand} 
 lanes_on {w = w} {s = s} coefs x some p q = filled_on some p q (lane_along w coefs x s)
 
 -- ---- a whole class
-
-pub filled_all : {before after : List Float} {w : Weave} {s t : Strand} {f : ℕ → Float} → Begun before after w s t f
-    → w.count ≤ t.from → Classed before after s.from w.den w.count f
-filled_all {w = w} {s = s} {t = t} p h = strewn_all s.from w.den w.count p.out (omega (arith, ap (λ (v : Strand). v.from) p.strand))
 
 -- a sample of the layout is one of the window
 neighbour : {x window : List Float} {num stride reach : ℕ} → Woven x window num stride reach → 0 < num → (row column j : ℕ)
@@ -139,13 +112,14 @@ neighbour {x} {window} {num} {stride} w some row column j h =
     ∙ ap (at window) place
     ∙ sym (get_or-drop (column * num + row) window j nan)
 
--- so a lane is the sum of the direct kernel
-lane_is : {x window : List Float} {num stride reach : ℕ} → Woven x window num stride reach → 0 < num → (n : ℕ) (coefs : List Float) (row column : ℕ)
-    → column * num + row + n ≤ reach → lane_sum num stride n coefs x row column ≡ direct_sum n coefs (drop (column * num + row) window)
+-- so a lane, over the first coefficients of the table, is the sum of the direct kernel
+lane_is : {x window : List Float} {num stride reach : ℕ} → Woven x window num stride reach → 0 < num → (n : ℕ) (row coefs : List Float) (r column : ℕ)
+    → ((j : ℕ) → j < n → at row j ≡ at coefs j) → column * num + r + n ≤ reach
+    → lane_sum num stride n row x r column ≡ direct_sum n coefs (drop (column * num + r) window)
 unfolding sum_to
-lane_is w some zero coefs row column h = refl
-lane_is w some (suc n) coefs row column h =
-    rw (lane_is w some n coefs row column (omega arith), neighbour w some row column n (omega arith))
+lane_is w some zero row coefs r column same h = refl
+lane_is w some (suc n) row coefs r column same h =
+    rw (lane_is w some n row coefs r column (λ j l. same j (omega arith)) (omega arith), same n (omega arith), neighbour w some r column n (omega arith))
 
 -- where the window of output m starts
 starts : (num shift m : ℕ) → (shift / num + m) * num + shift % num ≡ shift + m * num
@@ -167,27 +141,12 @@ module _ {w : Weave} {shift from size window out : ℕ} (f : ClassFits w shift f
         ends = λ m l. omega (arith, f.within m l, starts w.num shift m);
       }
 
-  pub lanes_fit : {coefs : ℕ} → w.n ≤ coefs → LanesFit w (strand_of w.num shift from) coefs size out
-  lanes_fit h =
-      record { strand = strand_fits (w.stride * w.num) f.columns; row_low = mod-lt shift f.num_some; rows = f.rows; table = h }
-
--- one by one
-pub class_steps : (w : Weave) (phase : Phase) (oversample : ℕ) (coefs window : List Float) (shift from : ℕ) {before after : List Float}
-    → Classed before after from w.den w.count (λ m. step_of phase w.n oversample coefs (drop ((shift / w.num + m) * w.num + shift % w.num) window))
-    → Classed before after from w.den w.count (λ m. step_of phase w.n oversample coefs (drop (shift + m * w.num) window))
-class_steps w phase oversample coefs window shift from c =
-    record {
-      long = c.long;
-      these = λ m l. rw (← starts w.num shift m) (c.these m l);
-      others = c.others;
-    }
-
 -- side by side, and the rest one by one
 pub class_lanes : {w : Weave} {shift from size long out : ℕ} → ClassFits w shift from size long out
     → (phase : Phase) (row oversample : ℕ) (coefs window : List Float) {x before between after : List Float} {t : Strand}
     → phase ≡ Direct row → Woven x window w.num w.stride w.reach
-    → Begun before between w (strand_of w.num shift from) t (lane_of w (drop (row * w.n) coefs) x (strand_of w.num shift from))
-    → Classed between after t.from w.den w.count (λ m. step_of (Direct row) w.n oversample coefs (drop ((t.column + m) * w.num + t.row) window))
+    → Begun before between w (strand_of w.num shift from) t (lane_of w (take w.n (drop (row * w.n) coefs)) x (strand_of w.num shift from))
+    → Classed between after t.from w.den w.count (λ m. step_of phase w.n oversample coefs (drop ((t.column + m) * w.num + t.row) window))
     → Classed before after from w.den w.count (λ m. step_of phase w.n oversample coefs (drop (shift + m * w.num) window))
 unfolding step_of
 class_lanes {w} {shift} {from} f phase row oversample coefs window {x = x} {t = t} e woven p c =
@@ -195,11 +154,12 @@ class_lanes {w} {shift} {from} f phase row oversample coefs window {x = x} {t = 
     (ap (λ (v : Strand). v.from) p.strand) c (omega (arith, f.from_low)) later
   where
     lane : (l : ℕ) → l < p.m → from + l * w.den < w.count
-        → lane_of w (drop (row * w.n) coefs) x (strand_of w.num shift from) l ≡ step_of phase w.n oversample coefs (drop (shift + l * w.num) window)
+        → lane_of w (take w.n (drop (row * w.n) coefs)) x (strand_of w.num shift from) l ≡ step_of phase w.n oversample coefs (drop (shift + l * w.num) window)
     lane l b h =
         rw (e, ← starts w.num shift l)
-        (lane_is woven f.num_some w.n (drop (row * w.n) coefs) (shift % w.num) (shift / w.num + l) (omega (arith, f.within l h, starts w.num shift l)))
+        (lane_is woven f.num_some w.n (take w.n (drop (row * w.n) coefs)) (drop (row * w.n) coefs) (shift % w.num) (shift / w.num + l)
+        (λ j z. get_or-take w.n (drop (row * w.n) coefs) j nan z) (omega (arith, f.within l h, starts w.num shift l)))
 
     later : (l : ℕ) → t.from + l * w.den < w.count
-        → step_of (Direct row) w.n oversample coefs (drop ((t.column + l) * w.num + t.row) window) ≡ step_of phase w.n oversample coefs (drop (shift + (p.m + l) * w.num) window)
-    later l h = rw (e, p.strand, add_assoc, starts w.num shift (p.m + l))
+        → step_of phase w.n oversample coefs (drop ((t.column + l) * w.num + t.row) window) ≡ step_of phase w.n oversample coefs (drop (shift + (p.m + l) * w.num) window)
+    later l h = rw (p.strand, add_assoc, starts w.num shift (p.m + l))

@@ -1,30 +1,30 @@
 -- Stores `by` entries apart.
---     strewn_none, strewn_one      no store, and one
+--     strewn_none                  no store
 --     strewn_store, strewn_on      one store more, and stores after stores
 --     strewn_full, strewn_all      nothing below count is left
 --     strewn_then                  the rest of a class
---     strewn_sixteen               sixteen sums, four by four
+--     strewn_more                  four sums after others
 -- Assumes nothing.
 use mathlib.Core.Path.{◌≡◌, refl, ap, ◌∙◌}
 use mathlib.Core.Logic.{inl, inr}
-use mathlib.Core.List.{List}
+use mathlib.Core.List.{List, []}
 use Prim.Native.Nat.{ℕ, zero, suc, ◌+◌, ◌*◌, ◌-◌, ◌≤◌, ◌<◌}
 use native.Mathlib.Nat.{add-mul, add-zero, zero-mul, mul-one, mul-le-mul_left, mul-le-mul_right, lt_of_mul-lt-mul_right}
 use native.Mathlib.Omega.{arith}
-use lib.ListN.{length, set, length-set}
+use lib.ListN.{length, set, length-set, get_or}
 use lib.Seq.{get_or-set_same, get_or-set_other}
 use lib.Ieee.{Float, nan}
 use Rattle.math.proofs.Closest.{below_or_not}
 use Rattle.kernel.specs.Sums.{at}
 use Rattle.lanes.specs.Class.{Classed}
-use Rattle.lanes.specs.Inner.{fours, sixteens, Strewn}
-use Rattle.lanes.specs.declared.Lanes.{Lanes}
+use Rattle.lanes.specs.Inner.{fours, sums_of, Strewn}
+use Rattle.lanes.proofs.Adding.{sums_at}
 
 module _ (from by count : ℕ) where
   pub strewn_none : (before : List Float) (f : ℕ → Float) → Strewn before before from by count 0 f
   strewn_none before f = record { long = refl; these = λ l h k. absurd (omega arith); others = λ k h. refl }
 
-  pub strewn_one : (before : List Float) (v : Float) → from < count → from < length before → Strewn before (set before from v) from by count 1 (λ l. v)
+  strewn_one : (before : List Float) (v : Float) → from < count → from < length before → Strewn before (set before from v) from by count 1 (λ l. v)
   strewn_one before v below h =
       record {
         long = length-set before from v;
@@ -119,12 +119,13 @@ fours_at f (suc (suc zero)) h = refl
 fours_at f (suc (suc (suc zero))) h = refl
 fours_at f (suc (suc (suc (suc l)))) h = absurd (omega arith)
 
-module _ (from by count : ℕ) (some : 0 < by) {s : Lanes} {f : ℕ → Float} (e : s ≡ sixteens f) where
-  -- sixteen sums are put four by four
-  pub strewn_sixteen : {out o4 o8 o12 o16 : List Float} → Strewn out o4 from by count 4 (at s.a) → Strewn o4 o8 (from + 4 * by) by count 4 (at s.b)
-      → Strewn o8 o12 (from + 8 * by) by count 4 (at s.c) → Strewn o12 o16 (from + 12 * by) by count 4 (at s.d) → Strewn out o16 from by count 16 f
-  strewn_sixteen p q r t =
-      let four = strewn_same from by count p (λ l b c. ap (λ (v : Lanes). at v.a l) e ∙ fours_at f l b) in
-      let eight = strewn_on from by count four (from + 4 * by) 4 refl q some (λ l b c. ap (λ (v : Lanes). at v.b l) e ∙ fours_at (λ l. f (4 + l)) l b) in
-      let twelve = strewn_on from by count eight (from + 8 * by) 4 refl r some (λ l b c. ap (λ (v : Lanes). at v.c l) e ∙ fours_at (λ l. f (8 + l)) l b) in
-      strewn_on from by count twelve (from + 12 * by) 4 refl t some (λ l b c. ap (λ (v : Lanes). at v.d l) e ∙ fours_at (λ l. f (12 + l)) l b)
+-- four q of the sums is put after those before it
+pub strewn_more : (from by count : ℕ) {before between after : List Float} {q n : ℕ} {s : List (List Float)} {f : ℕ → Float} → 0 < by → s ≡ sums_of n f → q < n
+    → Strewn before between from by count (4 * q) f → Strewn between after (from + 4 * q * by) by count 4 (at (get_or s q []))
+    → Strewn before after from by count (4 * (q + 1)) f
+strewn_more from by count {before} {between} {after} {q} {n} {f = f} some e low p t =
+    let more : Strewn before after from by count (4 * q + 4) f =
+    strewn_on from by count p (from + 4 * q * by) 4 refl t some
+    (λ l b c. ap (λ (v : List (List Float)). at (get_or v q []) l) e ∙ ap (λ (v : List Float). at v l) (sums_at n q f low) ∙ fours_at (λ l. f (4 * q + l)) l b) in
+    let next : 4 * (q + 1) ≡ 4 * q + 4 = omega arith in
+    rw next more

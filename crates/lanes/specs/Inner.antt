@@ -1,9 +1,13 @@
 -- What the functions within this crate promise each other. Assumes nothing.
-use Rattle.std.specs.Prelude.{◌≡◌, List, [], ◌∷◌, ℕ, ◌+◌, ◌*◌, ◌/◌, ◌%◌, ◌^◌, ◌≤◌, ◌<◌, length, Float}
-use Rattle.math.specs.Operators.{◌+ᶠ◌, ◌*ᶠ◌}
+use Rattle.std.specs.Prelude.{◌≡◌, List, [], ◌∷◌, ℕ, zero, suc, ◌+◌, ◌*◌, ◌/◌, ◌%◌, ◌^◌, ◌≤◌, ◌<◌, length, Float}
+use Rattle.math.specs.Operators.{◌*ᶠ◌}
+use Rattle.std.specs.Coded.{le_prop}
+use Rattle.std.proofs.Props.{props}
 use Rattle.kernel.specs.Sums.{at, sum_to}
-use Rattle.lanes.specs.declared.Lanes.{Lanes}
-use Rattle.lanes.specs.declared.Wide.{Wide}
+use Rattle.kernel.specs.Interpolated.{spread}
+use Rattle.kernel.specs.Step.{Reaches}
+use Rattle.kernel.specs.declared.Phase.{Phase}
+use Rattle.kernel.specs.declared.Phase.TheVariants.{Direct, Interpolated}
 use Rattle.lanes.specs.declared.Spot.{Spot}
 use Rattle.lanes.specs.declared.Strand.{Strand}
 use Rattle.lanes.specs.declared.Weave.{Weave}
@@ -38,35 +42,24 @@ pub record Spotted (num stride column t : ℕ) (s : Spot) : Type 0 where
 abbrev pub lane_sum : ℕ → ℕ → ℕ → List Float → List Float → ℕ → ℕ → Float
 lane_sum num stride n coefs x row column = sum_to n (λ j. at coefs j *ᶠ at x (spot num stride (row + j) + column))
 
--- f 0, f 1, .. as sums in fours
+-- f 0, f 1, f 2 and f 3
 abbrev pub fours : (ℕ → Float) → List Float
 fours f = f 0 ∷ f 1 ∷ f 2 ∷ f 3 ∷ []
 
-abbrev pub sixteens : (ℕ → Float) → Lanes
-sixteens f = record { a = fours f; b = fours (λ l. f (4 + l)); c = fours (λ l. f (8 + l)); d = fours (λ l. f (12 + l)) }
+-- f 0, f 1, .. as q fours
+abbrev pub sums_of : ℕ → (ℕ → Float) → List (List Float)
+sums_of zero f = []
+sums_of (suc q) f = fours f ∷ sums_of q (λ l. f (4 + l))
 
-abbrev pub thirty_twos : (ℕ → Float) → Wide
-thirty_twos f = record { near = sixteens f; far = sixteens (λ l. f (16 + l)) }
+-- coefficient k times the neighbours from entry i on, added to the sums: to each four of them the next four
+abbrev pub add_tap : List (List Float) → Float → List Float → ℕ → List (List Float)
+add_tap [] k x i = []
+add_tap (s ∷ r) k x i = spread s k x i ∷ add_tap r k x (i + 4)
 
--- coefficient k times four neighbours, from entry i on, added to four sums
-abbrev pub add_four : List Float → Float → List Float → ℕ → List Float
-add_four s k x i =
-    (at s 0 +ᶠ k *ᶠ at x i)
-    ∷ (at s 1 +ᶠ k *ᶠ at x (i + 1))
-    ∷ (at s 2 +ᶠ k *ᶠ at x (i + 2))
-    ∷ (at s 3 +ᶠ k *ᶠ at x (i + 3))
-    ∷ []
-
--- and sixteen to sixteen
-abbrev pub add_tap : Lanes → Float → List Float → ℕ → Lanes
-add_tap s k x i = record { a = add_four s.a k x i; b = add_four s.b k x (i + 4); c = add_four s.c k x (i + 8); d = add_four s.d k x (i + 12) }
-
--- the taps of the window that starts at row `row` and column `column` stand in a layout of `size` entries, with 32 to spare
-pub record TapsFit (num stride n row column coefs size : ℕ) : Type 0 where
-  pub row_low : row < num
-  pub rows : num * stride + 32 ≤ size
-  pub ends : column * num + row + n ≤ stride * num
-  pub table : n ≤ coefs
+-- the taps of the window that starts at the strand's row and column stand in the rows of the layout
+pub record TapsFit (w : Weave) (s : Strand) : Type 0 where
+  pub row_low : s.row < w.num
+  pub ends : s.column * w.num + s.row + w.n ≤ w.stride * w.num
 
 -- ---- outputs den apart
 
@@ -90,11 +83,9 @@ pub record StrandFits (w : Weave) (s : Strand) (end out : ℕ) : Type 0 where
   pub ends : (m : ℕ) → s.from + m * w.den < w.count → (s.column + m) * w.num + s.row + w.n ≤ end
 
 -- and if they are to be made side by side
-pub record LanesFit (w : Weave) (s : Strand) (coefs size out : ℕ) : Type 0 where
+pub record LanesFit (w : Weave) (s : Strand) (out : ℕ) : Type 0 where
   pub strand : StrandFits w s (w.stride * w.num) out
   pub row_low : s.row < w.num
-  pub rows : w.num * w.stride + 32 ≤ size
-  pub table : w.n ≤ coefs
 
 -- output l of strand s, summed over the layout
 abbrev pub lane_of : Weave → List Float → List Float → Strand → ℕ → Float
@@ -106,3 +97,9 @@ pub record Begun (before after : List Float) (w : Weave) (s t : Strand) (f : ℕ
   pub strand : t ≡ along w.den m s
   pub from_to : t.from < 2 ^ 62
   pub out : Strewn before after s.from w.den w.count m f
+
+-- there is at most one proof that the table holds what the phase reads. It stands in specs/ since a ghost field of `Steps` cites it, and a `ghost use`
+-- takes nothing else of its own crate
+pub reaches_prop : (p : Phase) (n oversample size : ℕ) → IsProp (Reaches p n oversample size)
+reaches_prop (Direct row) n oversample size = le_prop
+reaches_prop (Interpolated offset f) n oversample size = Prim.hlevel props

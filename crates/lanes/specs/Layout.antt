@@ -14,8 +14,9 @@ pub record LayoutFits (num stride reach size window : ℕ) : Type 0 where
   pub columns : reach ≤ stride * num
   pub held : reach ≤ window
 
--- a stride that is not 0 serves: the layout fits 2,048 entries with 32 to spare
+-- a stride that serves: the layout fits 2,048 entries with 32 to spare, and holds all samples
 pub record Strided (num reach stride : ℕ) : Type 0 where
-  pub rows : 0 < stride → num * stride + 32 ≤ 2048
-  pub columns : 0 < stride → reach ≤ stride * num
-  pub num_some : 0 < stride → 0 < num
+  pub some : 0 < stride
+  pub rows : num * stride + 32 ≤ 2048
+  pub columns : reach ≤ stride * num
+  pub num_some : 0 < num

@@ -8,13 +8,13 @@
 // layout has room (`stride_for`) and whether an output lies below count (`put_four`).
 #![tactic(auto)]
 
-ghost use Rattle.std.specs.Prelude.{◌≡◌, ℕ, ◌+◌, ◌*◌, ◌-◌, ◌^◌, ◌≤◌, ◌<◌, length, drop, Float};
+ghost use Rattle.std.specs.Prelude.{◌≡◌, ℕ, ◌+◌, ◌*◌, ◌-◌, ◌^◌, ◌≤◌, ◌<◌, length, drop, IfSome, Float};
 ghost use Rattle.math.specs.Numerals.{nought};
 ghost use Rattle.kernel.specs.Sums.{at};
 ghost use Rattle.kernel.specs.Step.{step_of, Reaches};
 ghost use Rattle.lanes.specs.Layout.{Woven, LayoutFits, Strided};
 ghost use Rattle.lanes.specs.Class.{ClassFits, Classed};
-ghost use Rattle.lanes.specs.Inner.{RowFits, RowLaid, Spotted, lane_sum, sixteens, thirty_twos, add_four, add_tap, TapsFit, Strewn, along, StrandFits, LanesFit, lane_of, Begun};
+ghost use Rattle.lanes.specs.Inner.{RowFits, RowLaid, Spotted, sums_of, add_tap, TapsFit, Strewn, along, StrandFits, LanesFit, lane_of, Begun, reaches_prop};
 
 use kernel::Phase;
 
@@ -33,22 +33,19 @@ pub struct Weave {
     pub count: usize,
 }
 
-// The stride of a layout of `reach` samples, or 0 where they have no room.
-pub fn stride_for(num: usize, reach: usize) -> usize
-    ensures { Strided num reach result }
+// The stride of a layout of `reach` samples, or None where they have no room.
+pub fn stride_for(num: usize, reach: usize) -> Option<usize>
+    ensures { IfSome result (Strided num reach) }
 {
-    if num == 0 {
-        return 0;
-    }
-    // So that the stride is small.
-    if ROOM < reach {
-        return 0;
+    // A reach within the room keeps the stride small.
+    if num == 0 || ROOM < reach {
+        return None;
     }
     let stride = reach / num + 1;
     if (ROOM - 32) / num < stride {
-        return 0;
+        return None;
     }
-    stride
+    Some(stride)
 }
 
 // A row: every num-th sample from `from` on, below reach, to the entries from `start` on.
@@ -56,26 +53,22 @@ fn lay_row(x: &mut [f32], start: usize, window: &[f32], from: usize, num: usize,
     requires { RowFits start from num reach (length x.old) (length window.now) }
     ensures { RowLaid x.old x.new window.now start from num reach }
 {
+    // Tried: with `enumerate` in place of `i`, laying out takes a third longer, and a round up to a tenth.
     let mut i = start;
-    let mut t = from;
-    while t < reach {
+    for t in (from..reach).step_by(num) {
         x[i] = window[t];
         i += 1;
-        t += num;
     }
 }
 
 // Lays the first `reach` samples of the window out by position modulo num.
+// Its parameters and clauses stay: it is public, and docs/DECISIONS.md and docs/CLAIMS.md name it.
 pub fn lay_out(x: &mut [f32], window: &[f32], num: usize, stride: usize, reach: usize)
     requires { LayoutFits num stride reach (length x.old) (length window.now) }
     ensures { Woven x.new window.now num stride reach }
 {
-    let mut row = 0;
-    let mut start = 0;
-    while row < num {
-        lay_row(x, start, window, row, num, reach);
-        row += 1;
-        start += stride;
+    for row in 0..num {
+        lay_row(x, row * stride, window, row, num, reach);
     }
 }
 
@@ -86,175 +79,80 @@ struct Spot {
     i: usize,
 }
 
-// Where the next tap's samples stand: a row on, or after the last row a column on in the first.
-fn next_spot(s: Spot, num: usize, stride: usize, back: usize) -> Spot
-    requires { (s.row < num) × (s.row * stride ≤ s.i) × (back ≡ (num - 1) * stride) × (s.i + stride < 2 ^ 63) }
-    ensures { (column t : ℕ) → Spotted num stride column t s → Spotted num stride column (t + 1) result }
-{
-    let row = s.row + 1;
-    if row == num {
-        Spot {
-            row: 0,
-            i: s.i - back + 1,
+impl Spot {
+    // Where the next tap's samples stand: a row on, or after the last row a column on in the first.
+    fn next(self, num: usize, stride: usize, back: usize) -> Self
+        requires { (self.row < num) × (self.row * stride ≤ self.i) × (back ≡ (num - 1) * stride) × (self.i + stride < 2 ^ 63) }
+        ensures { (column t : ℕ) → Spotted num stride column t self → Spotted num stride column (t + 1) result }
+    {
+        let row = self.row + 1;
+        if row == num {
+            Spot {
+                row: 0,
+                i: self.i - back + 1,
+            }
+        } else {
+            Spot {
+                row,
+                i: self.i + stride,
+            }
         }
-    } else {
-        Spot {
-            row,
-            i: s.i + stride,
-        }
     }
 }
 
-// One coefficient times four neighbours, each product added to its sum.
-fn add_four(s: [f32; 4], k: f32, x: &[f32], i: usize) -> [f32; 4]
-    requires { i + 3 < length x.now }
-    ensures { result ≡ add_four s k x.now i }
-{
-    [
-        s[0] + k * x[i],
-        s[1] + k * x[i + 1],
-        s[2] + k * x[i + 2],
-        s[3] + k * x[i + 3],
-    ]
-}
-
-// The sums of sixteen outputs.
-#[derive(Clone, Copy)]
-struct Lanes {
-    a: [f32; 4],
-    b: [f32; 4],
-    c: [f32; 4],
-    d: [f32; 4],
-}
-
-// The sums of thirty-two.
-#[derive(Clone, Copy)]
-struct Wide {
-    near: Lanes,
-    far: Lanes,
-}
-
-// Sixteen sums of nothing.
-fn silent() -> Lanes
-    ensures { result ≡ sixteens (λ (l : ℕ). nought) }
-{
-    Lanes {
-        a: [0.0; 4],
-        b: [0.0; 4],
-        c: [0.0; 4],
-        d: [0.0; 4],
-    }
-}
-
-// One coefficient times sixteen neighbours.
-fn add_tap(s: Lanes, k: f32, x: &[f32], i: usize) -> Lanes
-    requires { i + 15 < length x.now }
-    ensures { result ≡ add_tap s k x.now i }
-{
-    let a = s.a;
-    let b = s.b;
-    let c = s.c;
-    let d = s.d;
-    Lanes {
-        a: add_four(a, k, x, i),
-        b: add_four(b, k, x, i + 4),
-        c: add_four(c, k, x, i + 8),
-        d: add_four(d, k, x, i + 12),
-    }
-}
-
-// Sixteen outputs side by side, from the one whose window starts at this row and column on.
-fn sixteen(
-    x: &[f32],
-    coefs: &[f32],
-    n: usize,
-    num: usize,
-    stride: usize,
-    row: usize,
-    column: usize,
-) -> Lanes
-    requires { TapsFit num stride n row column (length coefs.now) (length x.now) }
-    ensures { result ≡ sixteens (λ (l : ℕ). lane_sum num stride n coefs.now x.now row (column + l)) }
-{
-    let back = (num - 1) * stride;
-    let mut s = silent();
-    let mut at = Spot {
-        row,
-        i: row * stride + column,
-    };
-    let mut j = 0;
-    while j < n {
-        let next = add_tap(s, coefs[j], x, at.i);
-        s = next;
-        at = next_spot(at, num, stride, back);
-        j += 1;
-    }
-    s
-}
-
-// Thirty-two: each coefficient is read once for all of them.
-fn thirty_two(
-    x: &[f32],
-    coefs: &[f32],
-    n: usize,
-    num: usize,
-    stride: usize,
-    row: usize,
-    column: usize,
-) -> Wide
-    requires { TapsFit num stride n row column (length coefs.now) (length x.now) }
-    ensures { result ≡ thirty_twos (λ (l : ℕ). lane_sum num stride n coefs.now x.now row (column + l)) }
-{
-    let back = (num - 1) * stride;
-    let mut near = silent();
-    let mut far = silent();
-    let mut at = Spot {
-        row,
-        i: row * stride + column,
-    };
-    let mut j = 0;
-    while j < n {
-        let k = coefs[j];
-        let first = add_tap(near, k, x, at.i);
-        let second = add_tap(far, k, x, at.i + 16);
-        near = first;
-        far = second;
-        at = next_spot(at, num, stride, back);
-        j += 1;
-    }
-    Wide { near, far }
-}
-
-// Four sums to entries from, from + by, .., as far as they lie below count.
+// Four sums to entries from, from + by, .., as far as they lie below count, which stands beside `out` here
+// and in `put`: what lies past it stays.
 fn put_four(out: &mut [f32], from: usize, by: usize, s: [f32; 4], count: usize)
     requires { (count ≤ length out.old) × (0 < by) × (by ≤ 2 ^ 32) }
     ensures { Strewn out.old out.new from by count 4 (at s) }
 {
-    let mut l = 0;
+    // Tried: `(from..count).step_by(by).zip(s)` proves, but from 48 to 96 kHz a round takes a quarter longer.
     let mut k = from;
-    while l < 4 {
+    for v in s {
         if k >= count {
             return;
         }
-        out[k] = s[l];
+        out[k] = v;
         k += by;
-        l += 1;
     }
 }
 
-// Sixteen sums, four by four.
-fn put_sixteen(out: &mut [f32], from: usize, by: usize, s: Lanes, count: usize)
-    requires { (count ≤ length out.old) × (0 < by) × (by ≤ 2 ^ 32) × (from < 2 ^ 63) }
-    ensures { (f : ℕ → Float) → s ≡ sixteens f → Strewn out.old out.new from by count 16 f }
-{
-    let a = s.a;
-    let b = s.b;
-    let c = s.c;
-    let d = s.d;
-    put_four(out, from, by, a, count);
-    put_four(out, from + 4 * by, by, b, count);
-    put_four(out, from + 8 * by, by, c, count);
-    put_four(out, from + 12 * by, by, d, count);
+// The sums of 4 * Q outputs, four by four.
+// `Q ≤ 8` (they stay in registers, and the numbers fit) stands in each contract: a const parameter has no invariant.
+#[derive(Clone, Copy)]
+struct Lanes<const Q: usize> {
+    fours: [[f32; 4]; Q],
+}
+
+impl<const Q: usize> Lanes<Q> {
+    // Sums of nothing.
+    fn silent() -> Self
+        ensures { result.fours ≡ sums_of Q (λ (l : ℕ). nought) }
+    {
+        Lanes {
+            fours: [[0.0; 4]; Q],
+        }
+    }
+
+    // One coefficient times 4 * Q neighbours, each product added to its sum.
+    fn add_tap(&mut self, k: f32, x: &[f32], i: usize)
+        requires { i + 4 * Q ≤ length x.now }
+        ensures { self.new.fours ≡ add_tap self.old.fours k x.now i }
+    {
+        for (q, four) in self.fours.iter_mut().enumerate() {
+            *four = kernel::spread(*four, k, x, i + 4 * q);
+        }
+    }
+
+    // The sums to entries from, from + by, .., as far as they lie below count.
+    fn put(&self, out: &mut [f32], from: usize, by: usize, count: usize)
+        requires { (Q ≤ 8) × (count ≤ length out.old) × (0 < by) × (by ≤ 2 ^ 32) × (from < 2 ^ 63) }
+        ensures { (f : ℕ → Float) → self.now.fours ≡ sums_of Q f → Strewn out.old out.new from by count (4 * Q) f }
+    {
+        for (q, four) in self.fours.iter().enumerate() {
+            put_four(out, from + 4 * q * by, by, *four, count);
+        }
+    }
 }
 
 // The outputs of one phase that are still to be made: the row and the column of the layout where the
@@ -266,148 +164,130 @@ struct Strand {
     from: usize,
 }
 
-// The strand m outputs on.
-fn along(s: Strand, m: usize, den: usize) -> Strand
-    requires { (s.column + m < 2 ^ 63) × (s.from + m * den < 2 ^ 63) }
-    ensures { result ≡ along den m s }
-{
-    Strand {
-        row: s.row,
-        column: s.column + m,
-        from: s.from + m * den,
+impl Strand {
+    // The strand m outputs on.
+    fn along(self, m: usize, den: usize) -> Self
+        requires { (self.column + m < 2 ^ 63) × (self.from + m * den < 2 ^ 63) }
+        ensures { result ≡ along den m self }
+    {
+        Strand {
+            column: self.column + m,
+            from: self.from + m * den,
+            ..self
+        }
     }
 }
 
-// The next sixteen outputs, as far as they lie below count.
-fn make_sixteen(x: &[f32], coefs: &[f32], weave: Weave, strand: Strand, out: &mut [f32]) -> Strand
-    requires { LanesFit weave strand (length coefs.now) (length x.now) (length out.old) × (strand.from < weave.count) }
-    ensures { (strand.from < result.from) × Begun out.old out.new weave strand result (lane_of weave coefs.now x.now strand) }
-{
-    let s = sixteen(
-        x,
-        coefs,
-        weave.n,
-        weave.num,
-        weave.stride,
-        strand.row,
-        strand.column,
-    );
-    put_sixteen(out, strand.from, weave.den, s, weave.count);
-    along(strand, 16, weave.den)
-}
-
-// The next thirty-two.
-fn make_thirty_two(
-    x: &[f32],
-    coefs: &[f32],
+// What the outputs of one phase are made of side by side: the layout, the phase's coefficients and
+// the numbers of the round.
+// `LanesFit` stands in each contract: the strand moves and `out` is lent anew, so neither is the loom's.
+#[derive(Clone, Copy)]
+struct Loom<'a> {
+    x: &'a [f32],
+    coefs: &'a [f32],
     weave: Weave,
-    strand: Strand,
-    out: &mut [f32],
-) -> Strand
-    requires { LanesFit weave strand (length coefs.now) (length x.now) (length out.old) × (strand.from < weave.count) }
-    ensures { (strand.from < result.from) × Begun out.old out.new weave strand result (lane_of weave coefs.now x.now strand) }
-{
-    let s = thirty_two(
-        x,
-        coefs,
-        weave.n,
-        weave.num,
-        weave.stride,
-        strand.row,
-        strand.column,
-    );
-    let near = s.near;
-    let far = s.far;
-    put_sixteen(out, strand.from, weave.den, near, weave.count);
-    put_sixteen(
-        out,
-        strand.from + 16 * weave.den,
-        weave.den,
-        far,
-        weave.count,
-    );
-    along(strand, 32, weave.den)
+    ghost rows: { weave.num * weave.stride + 32 ≤ length x.now },
+    ghost taps: { length coefs.now ≡ weave.n },
 }
 
-// By thirty-twos while more than sixteen are left.
-fn fill_thirty_twos(
-    x: &[f32],
-    coefs: &[f32],
-    weave: Weave,
-    strand: Strand,
-    out: &mut [f32],
-) -> Strand
-    requires { LanesFit weave strand (length coefs.now) (length x.now) (length out.old) }
-    ensures { Begun out.old out.new weave strand result (lane_of weave coefs.now x.now strand) }
-{
-    let mut strand = strand;
-    while strand.from + 16 * weave.den < weave.count {
-        strand = make_thirty_two(x, coefs, weave, strand, out);
+impl<'a> Loom<'a> {
+    // The sums of the next 4 * Q outputs: each coefficient is read once for all of them.
+    fn sum<const Q: usize>(&self, strand: Strand) -> Lanes<Q>
+        requires { (Q ≤ 8) × TapsFit self.now.weave strand }
+        ensures { result.fours ≡ sums_of Q (lane_of self.now.weave self.now.coefs.now self.now.x.now strand) }
+    {
+        let Weave { num, stride, .. } = self.weave;
+        let back = (num - 1) * stride;
+        let mut s: Lanes<Q> = Lanes::silent();
+        let mut at = Spot {
+            row: strand.row,
+            i: strand.row * stride + strand.column,
+        };
+        for k in self.coefs {
+            s.add_tap(*k, self.x, at.i);
+            at = at.next(num, stride, back);
+        }
+        s
     }
-    strand
-}
 
-// By sixteens while more than two are left. One or two are left to the plain step, which makes one in
-// less time than these make sixteen.
-fn fill_sixteens(x: &[f32], coefs: &[f32], weave: Weave, strand: Strand, out: &mut [f32]) -> Strand
-    requires { LanesFit weave strand (length coefs.now) (length x.now) (length out.old) }
-    ensures { Begun out.old out.new weave strand result (lane_of weave coefs.now x.now strand) }
-{
-    let mut strand = strand;
-    while strand.from + 2 * weave.den < weave.count {
-        strand = make_sixteen(x, coefs, weave, strand, out);
+    // The next 4 * Q outputs, as far as they lie below count.
+    fn make<const Q: usize>(&self, strand: Strand, out: &mut [f32]) -> Strand
+        requires { (0 < Q) × (Q ≤ 8) × LanesFit self.now.weave strand (length out.old) × (strand.from < self.now.weave.count) }
+        ensures { (strand.from < result.from) × Begun out.old out.new self.now.weave strand result (lane_of self.now.weave self.now.coefs.now self.now.x.now strand) }
+    {
+        let den = self.weave.den;
+        let s: Lanes<Q> = self.sum(strand);
+        s.put(out, strand.from, den, self.weave.count);
+        strand.along(4 * Q, den)
     }
-    strand
+
+    // By 4 * Q while more than `left` are left.
+    fn fill_by<const Q: usize>(&self, left: usize, strand: Strand, out: &mut [f32]) -> Strand
+        requires { (0 < Q) × (Q ≤ 8) × (left ≤ 16) × LanesFit self.now.weave strand (length out.old) }
+        ensures { Begun out.old out.new self.now.weave strand result (lane_of self.now.weave self.now.coefs.now self.now.x.now strand) }
+    {
+        // A `for` over the numbers would have to work out the strand after it once more.
+        let mut strand = strand;
+        while strand.from + left * self.weave.den < self.weave.count {
+            strand = self.make::<Q>(strand, out);
+        }
+        strand
+    }
+
+    // By thirty-twos while more than sixteen are left, then by sixteens while more than two are. One
+    // or two are left to the plain step, which makes one in less time than these make sixteen.
+    fn fill(&self, strand: Strand, out: &mut [f32]) -> Strand
+        requires { LanesFit self.now.weave strand (length out.old) }
+        ensures { Begun out.old out.new self.now.weave strand result (lane_of self.now.weave self.now.coefs.now self.now.x.now strand) }
+    {
+        let rest = self.fill_by::<8>(16, strand, out);
+        self.fill_by::<4>(2, rest, out)
+    }
 }
 
-// By lanes, all but two at most.
-fn fill_lanes(x: &[f32], coefs: &[f32], weave: Weave, strand: Strand, out: &mut [f32]) -> Strand
-    requires { LanesFit weave strand (length coefs.now) (length x.now) (length out.old) }
-    ensures { Begun out.old out.new weave strand result (lane_of weave coefs.now x.now strand) }
-{
-    let rest = fill_thirty_twos(x, coefs, weave, strand, out);
-    fill_sixteens(x, coefs, weave, rest, out)
-}
-
-// The next output, by itself.
-fn step_at(
+// What the outputs of one phase are made of one by one: the phase, the history, the table of
+// coefficients and the numbers of the round.
+#[derive(Clone, Copy)]
+struct Steps<'a> {
     phase: Phase,
-    window: &[f32],
-    coefs: &[f32],
+    window: &'a [f32],
+    coefs: &'a [f32],
     oversample: usize,
     weave: Weave,
-    strand: Strand,
-) -> f32
-    requires { (strand.column * weave.num + strand.row + weave.n ≤ length window.now) × Reaches phase weave.n oversample (length coefs.now) }
-    ensures { result ≡ step_of phase weave.n oversample coefs.now (drop (strand.column * weave.num + strand.row) window.now) }
-{
-    let at = strand.column * weave.num + strand.row;
-    kernel::step(phase, &window[at..], coefs, weave.n, oversample)
+    ghost reaches: { Reaches phase weave.n oversample (length coefs.now) } by { reaches_prop phase weave.n oversample (length coefs.now) },
 }
 
-// All outputs of the strand, one by one.
-fn step_rest(
-    phase: Phase,
-    window: &[f32],
-    coefs: &[f32],
-    oversample: usize,
-    weave: Weave,
-    strand: Strand,
-    out: &mut [f32],
-)
-    requires { StrandFits weave strand (length window.now) (length out.old) × Reaches phase weave.n oversample (length coefs.now) }
-    ensures { Classed out.old out.new strand.from weave.den weave.count (λ (m : ℕ). step_of phase weave.n oversample coefs.now (drop ((strand.column + m) * weave.num + strand.row) window.now)) }
-{
-    let mut strand = strand;
-    while strand.from < weave.count {
-        let k = strand.from;
-        out[k] = step_at(phase, window, coefs, oversample, weave, strand);
-        strand = along(strand, 1, weave.den);
+impl<'a> Steps<'a> {
+    // The next output.
+    fn at(&self, strand: Strand) -> f32
+        requires { strand.column * self.now.weave.num + strand.row + self.now.weave.n ≤ length self.now.window.now }
+        ensures { result ≡ step_of self.now.phase self.now.weave.n self.now.oversample self.now.coefs.now (drop (strand.column * self.now.weave.num + strand.row) self.now.window.now) }
+    {
+        let at = strand.column * self.weave.num + strand.row;
+        kernel::step(
+            self.phase,
+            &self.window[at..],
+            self.coefs,
+            self.weave.n,
+            self.oversample,
+        )
+    }
+
+    // All outputs of the strand.
+    fn fill(&self, strand: Strand, out: &mut [f32])
+        requires { StrandFits self.now.weave strand (length self.now.window.now) (length out.old) }
+        ensures { Classed out.old out.new strand.from self.now.weave.den self.now.weave.count (λ (m : ℕ). step_of self.now.phase self.now.weave.n self.now.oversample self.now.coefs.now (drop ((strand.column + m) * self.now.weave.num + strand.row) self.now.window.now)) }
+    {
+        let Weave { den, count, .. } = self.weave;
+        for (m, k) in (strand.from..count).step_by(den).enumerate() {
+            out[k] = self.at(strand.along(m, den));
+        }
     }
 }
 
 // Makes outputs from, from + den, from + 2 * den, .. below count, which have one phase: `shift` is
 // where the window of the first starts.
+// Its parameters and clauses stay: it is public, and docs/DECISIONS.md and docs/CLAIMS.md name it.
 pub fn fill_class(
     phase: Phase,
     x: &[f32],
@@ -424,21 +304,26 @@ pub fn fill_class(
     requires reaches { Reaches phase weave.n oversample (length coefs.now) }
     ensures { Classed out.old out.new from weave.den weave.count (λ (m : ℕ). step_of phase weave.n oversample coefs.now (drop (shift + m * weave.num) window.now)) }
 {
-    let num = weave.num;
     let strand = Strand {
-        row: shift % num,
-        column: shift / num,
+        row: shift % weave.num,
+        column: shift / weave.num,
         from,
+    };
+    let steps = Steps {
+        phase,
+        window,
+        coefs,
+        oversample,
+        weave,
     };
     match phase {
         Phase::Direct(row) => {
             let start = row * weave.n;
-            let rest = fill_lanes(x, &coefs[start..], weave, strand, out);
-            step_rest(phase, window, coefs, oversample, weave, rest, out);
+            let coefs = &coefs[start..start + weave.n];
+            let rest = Loom { x, coefs, weave }.fill(strand, out);
+            steps.fill(rest, out);
         }
         // Such outputs have no row; a caller has them only where it does not choose.
-        Phase::Interpolated(_, _) => {
-            step_rest(phase, window, coefs, oversample, weave, strand, out);
-        }
+        Phase::Interpolated(_, _) => steps.fill(strand, out),
     }
 }

@@ -2,10 +2,10 @@
 -- Assumes nothing.
 use mathlib.Core.Path.{◌≡◌, refl, sym, ap, ◌∙◌, subst}
 use mathlib.Core.Bool.{not}
-use mathlib.Core.Logic.{◌⊎◌, inl, inr, ⊎_elim}
+use mathlib.Core.Logic.{◌⊎◌, inl, inr}
 use Prim.Native.Nat.{ℕ, suc, ◌+◌, ◌*◌, ◌/◌, ◌%◌, ◌≤◌, ◌<◌, compare, Ordering}
 use native.Mathlib.Decide.{dec_lt}
-use native.Mathlib.Nat.{mod-lt, le_of_lt, lt_irrefl, div-eq_of_lt, mod-eq_of_lt}
+use native.Mathlib.Nat.{le_of_lt, lt_irrefl, div-eq_of_lt, mod-eq_of_lt}
 use native.Mathlib.Omega.{arith}
 use lib.Dec.{T, is_le, compare_is_eq, eqb, le→leb, eqb→eq, eqb_refl}
 use lib.Arith.{lt→nleb}
@@ -55,19 +55,6 @@ over_half a b h = sym (ap (nearest (a / b)) (is_gt (a % b * 2) b h))
 
 half : (a b : ℕ) → a % b * 2 ≡ b → a / b + a / b % 2 ≡ closest a b
 half a b h = sym (ap (nearest (a / b)) (is_eq (a % b * 2) b h))
-
--- ---- one test for the three: twice the remainder, and one more at an odd quotient
-pub rounds_up : (a b : ℕ) → b < a % b * 2 + a / b % 2 → a / b + 1 ≡ closest a b
-rounds_up a b h = ⊎_elim
-    (λ (l : b < a % b * 2). omega (arith, over_half a b l))
-    (λ (l : a % b * 2 ≤ b). let e : a % b * 2 ≡ b = omega (arith, mod-lt (a / b) {m = 2} (omega arith)) in omega (arith, half a b e, mod-lt (a / b) {m = 2} (omega arith)))
-    (below_or_not b (a % b * 2))
-
-pub rounds_down : (a b : ℕ) → a % b * 2 + a / b % 2 ≤ b → a / b ≡ closest a b
-rounds_down a b h = ⊎_elim
-    (λ (l : a % b * 2 < b). under_half a b l)
-    (λ (l : b ≤ a % b * 2). let e : a % b * 2 ≡ b = omega arith in omega (arith, half a b e))
-    (below_or_not (a % b * 2) b)
 
 -- ---- how far it lies from the quotient
 -- less than a half goes to 0

@@ -9,24 +9,21 @@ ghost use Rattle.math.specs.Powers.{square, cube};
 ghost use Rattle.math.specs.Sign.{magnitude, times_sign};
 
 // v times the sign of a: -v where a is negative or -0.0. A NaN has no sign, and leaves v as it is.
-// Only the bit tells the two zeros apart: `a < 0.0` does not hold at -0.0.
+// `a < 0.0` would not do: it does not hold at -0.0.
 pub fn times_sign(a: f64, v: f64) -> f64
     ensures { result ≡ times_sign a v }
 {
-    if a != a {
-        return v;
-    }
-    if f64::to_bits(a) < 0x8000_0000_0000_0000 {
+    if a.is_nan() || a.is_sign_positive() {
         return v;
     }
     -v
 }
 
-// |a|: 0.0 at both zeros, and a NaN at a NaN.
+// |a|: 0.0 at both zeros, and a NaN at a NaN. The library's, under the name that docs/CLAIMS.md has.
 pub fn abs(a: f64) -> f64
     ensures { result ≡ magnitude a }
 {
-    times_sign(a, a)
+    a.abs()
 }
 
 // The Rust's `x.powi(2)`.

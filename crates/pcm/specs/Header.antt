@@ -1,11 +1,11 @@
 -- Document 01, "Small program" and "Refusal numbers": the mark `DVS`, a 16-bit version, the source rate and the target rate as 32-bit numbers, all
 -- little-endian: 13 bytes. Refused 8 where the header is short or has another mark, 9 where the version is not 1, 1 where a rate is out of limits, in
 -- that order. Assumes nothing.
-use Rattle.std.specs.Prelude.{ℕ, ◌+◌, ◌*◌, Bool, cond, not, ◌&&◌, ◌||◌, List, eqb, ltb, length, get_or}
+use Rattle.std.specs.Prelude.{ℕ, ◌+◌, ◌*◌, Bool, cond, not, ◌&&◌, ◌||◌, List, eqb, ltb, length, get_or, Result, Ok, Err}
 use Rattle.sizes.specs.Sizes.{in_limits}
+use Rattle.judge.specs.declared.Refusal.{Refusal}
 use Rattle.judge.specs.declared.Refusal.TheVariants.{Rate, Mark, Version}
-use Rattle.pcm.specs.declared.Header.{Header}
-use Rattle.pcm.specs.declared.Header.TheVariants.{Refused, Rates}
+use Rattle.pcm.specs.declared.Rates.{Rates}
 
 -- how long a header is
 abbrev pub header_length : ℕ
@@ -31,9 +31,9 @@ unfoldable pub known_version : ℕ → Bool
 known_version version = eqb version 1
 
 -- what the first bytes of a file say
-unfoldable pub header_of : List ℕ → Header
+unfoldable pub header_of : List ℕ → Result Rates Refusal
 header_of bytes =
-    cond (ltb (length bytes) header_length || not (has_mark bytes)) (Refused Mark)
-    (cond (not (known_version (word16 bytes 3))) (Refused Version)
-    (cond (not (in_limits (word32 bytes 5)) || not (in_limits (word32 bytes 9))) (Refused Rate)
-    (Rates (word32 bytes 5) (word32 bytes 9))))
+    cond (ltb (length bytes) header_length || not (has_mark bytes)) (Err Mark)
+    (cond (not (known_version (word16 bytes 3))) (Err Version)
+    (cond (not (in_limits (word32 bytes 5)) || not (in_limits (word32 bytes 9))) (Err Rate)
+    (Ok (record { source = word32 bytes 5; target = word32 bytes 9 }))))

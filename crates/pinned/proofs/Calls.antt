@@ -9,15 +9,14 @@ use Rattle.quality.specs.declared.QualityMapping.{QualityMapping}
 use Rattle.state.specs.State.{setting_in}
 use Rattle.state.specs.declared.ResamplerState.{ResamplerState}
 use Rattle.judge.specs.Refusals.{max_call}
-use Rattle.judge.specs.Verdicts.{refuse_if, process_verdict}
+use Rattle.judge.specs.Verdicts.{accept, refuse_if, process_verdict}
 use Rattle.judge.specs.declared.Refusal.TheVariants.{EmptyInput, TooLong}
-use Rattle.judge.specs.declared.Verdict.TheVariants.{Accept}
 use Rattle.judge.proofs.Judged.{ProcessAccepted}
 
 module _ (row : QualityMapping) (s : ResamplerState) (memLen coefsLen : ℕ) (fits : ProcessAccepted row s memLen coefsLen) where
   -- the two tests that are left
   pub by_input : (inn room : ℕ) → process_verdict row s memLen coefsLen inn room
-      ≡ refuse_if (eqb inn 0) EmptyInput (refuse_if (ltb max_call inn || ltb max_call room) TooLong Accept)
+      ≡ refuse_if (eqb inn 0) EmptyInput (refuse_if (ltb max_call inn || ltb max_call room) TooLong accept)
   unfolding process_verdict
   by_input inn room =
       rw (
@@ -28,5 +27,5 @@ module _ (row : QualityMapping) (s : ResamplerState) (memLen coefsLen : ℕ) (fi
       )
 
   -- some input, and neither it nor the room longer than a call takes
-  pub call_accepted : (inn room : ℕ) → 0 < inn → inn ≤ max_call → room ≤ max_call → process_verdict row s memLen coefsLen inn room ≡ Accept
+  pub call_accepted : (inn room : ℕ) → 0 < inn → inn ≤ max_call → room ≤ max_call → process_verdict row s memLen coefsLen inn room ≡ accept
   call_accepted inn room some i r = rw (by_input inn room, ne_eqb inn 0 (λ z. omega arith), le-ltb max_call inn i, le-ltb max_call room r)

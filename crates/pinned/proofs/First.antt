@@ -19,13 +19,11 @@ use Rattle.quality.specs.Quality.{Sane}
 use Rattle.quality.specs.declared.QualityMapping.{QualityMapping}
 use Rattle.rates.specs.Setting.{setting_of}
 use Rattle.rates.specs.declared.Setting.{Setting}
-use Rattle.reshape.specs.Reshaped.{reshaped_history}
 use Rattle.state.specs.State.{fresh_state, setting_in}
 use Rattle.state.specs.Belongs.{belongs_together}
 use Rattle.state.proofs.Belonging.{fresh_state_belongs, rated_belongs}
-use Rattle.judge.specs.Verdicts.{refuse_if, new_verdict, rate_verdict}
+use Rattle.judge.specs.Verdicts.{accept, refuse_if, new_verdict, rate_verdict}
 use Rattle.judge.specs.declared.Refusal.TheVariants.{History, Coefficients}
-use Rattle.judge.specs.declared.Verdict.TheVariants.{Accept}
 use Rattle.judge.proofs.Judged.{ProcessAccepted}
 use Rattle.update.specs.Updated.{with_setting, updated_coefficients}
 use Rattle.update.proofs.Updates as updates
@@ -70,7 +68,7 @@ module _ (row : QualityMapping) (source target : ℕ) where
     -- only the lengths of the slices decide
     by_lengths : (memLen coefsLen : ℕ) → rate_verdict row (fresh_state target) source memLen coefsLen
         ≡ refuse_if (ltb memLen (history_needed (setting_of row source target).filt_len)) History
-        (refuse_if (ltb coefsLen (setting_of row source target).coefs) Coefficients Accept)
+        (refuse_if (ltb coefsLen (setting_of row source target).coefs) Coefficients accept)
     unfolding rate_verdict fresh_state
     by_lengths memLen coefsLen =
         rw (fresh_state_belongs row target ht, test_passes source hs, first_other source hs, zero-max (history_needed setting.filt_len))
@@ -83,7 +81,7 @@ module _ (row : QualityMapping) (source target : ℕ) where
 
     -- slices that are long enough
     first_verdict : (memLen coefsLen : ℕ) → history_needed (setting_of row source target).filt_len ≤ memLen
-        → (setting_of row source target).coefs ≤ coefsLen → rate_verdict row (fresh_state target) source memLen coefsLen ≡ Accept
+        → (setting_of row source target).coefs ≤ coefsLen → rate_verdict row (fresh_state target) source memLen coefsLen ≡ accept
     first_verdict memLen coefsLen m k = rw (by_lengths memLen coefsLen, le-ltb memLen _ m, le-ltb coefsLen _ k)
 
     -- the state belongs together
@@ -117,7 +115,7 @@ module _ (row : QualityMapping) (source target : ℕ) where
 
       -- the history after it: what the filter needs is 0.0
       pub first_history : rate_history row (fresh_state target) source mem coefs ≡ zeroed mem 0 (history_needed (setting_of row source target).filt_len)
-      unfolding rate_history fresh_state reshaped_history
+      unfolding rate_history fresh_state
       first_history =
           let needed = history_needed setting.filt_len in
           rw (first_verdict (length mem) (length coefs) m k, first_other source hs, zero-max needed, sub-zero needed) (zeroed_twice mem needed)

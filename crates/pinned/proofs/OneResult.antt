@@ -3,15 +3,14 @@ use mathlib.Core.Path.{◌≡◌, refl, sym, ◌∙◌, ap}
 use mathlib.Core.List.{List}
 use Prim.Native.Nat.{ℕ, zero, suc}
 use lib.Ieee.{Float}
+use Rattle.std.specs.Prelude.{Ok, Err}
 use Rattle.quality.specs.declared.QualityMapping.{QualityMapping}
 use Rattle.state.specs.declared.ResamplerState.{ResamplerState}
 use Rattle.judge.specs.declared.Refusal.{Refusal}
 use Rattle.judge.specs.declared.Refusal.TheVariants.{Rate, History, Coefficients, EmptyInput, TooLong, NoRate, State, Mark, Version}
-use Rattle.resampler.specs.Answers.{Told, told}
+use Rattle.resampler.specs.Answers.{Answer, Told, refused, told}
 use Rattle.resampler.specs.Entries.{new_told, skip_told}
 use Rattle.resampler.specs.Promises.{SetsRate, Processes, Resets}
-use Rattle.resampler.specs.declared.Answer.{Answer}
-use Rattle.resampler.specs.declared.Answer.TheVariants.{Refused, Accepted}
 
 -- ---- the answer, from what it tells
 
@@ -29,24 +28,27 @@ refusal_after (suc (suc (suc (suc (suc (suc (suc (suc n)))))))) = Version
 
 -- the answer of a number
 abbrev answer_of : ℕ → Told → Answer
-answer_of zero t = Accepted t.state (record { 0 = t.consumed }) (record { 0 = t.written })
-answer_of (suc n) t = Refused (refusal_after n) t.state
+answer_of zero t = Ok (record { state = t.state; consumed = record { 0 = t.consumed }; written = record { 0 = t.written } })
+answer_of (suc n) t = Err (record { refusal = refusal_after n; state = t.state })
 
 abbrev answered : Told → Answer
 answered t = answer_of t.number t
 
 -- which undoes `told`
+answered_refused : (r : Refusal) (s : ResamplerState) → answered (refused r s) ≡ Err (record { refusal = r; state = s })
+answered_refused Rate s = refl
+answered_refused History s = refl
+answered_refused Coefficients s = refl
+answered_refused EmptyInput s = refl
+answered_refused TooLong s = refl
+answered_refused NoRate s = refl
+answered_refused State s = refl
+answered_refused Mark s = refl
+answered_refused Version s = refl
+
 answered_told : (a : Answer) → answered (told a) ≡ a
-answered_told (Refused Rate s) = refl
-answered_told (Refused History s) = refl
-answered_told (Refused Coefficients s) = refl
-answered_told (Refused EmptyInput s) = refl
-answered_told (Refused TooLong s) = refl
-answered_told (Refused NoRate s) = refl
-answered_told (Refused State s) = refl
-answered_told (Refused Mark s) = refl
-answered_told (Refused Version s) = refl
-answered_told (Accepted s consumed written) = refl
+answered_told (Ok a) = refl
+answered_told (Err f) = answered_refused f.refusal f.state
 
 told_apart : (a b : Answer) → told a ≡ told b → a ≡ b
 told_apart a b e = sym (answered_told a) ∙ ap answered e ∙ answered_told b

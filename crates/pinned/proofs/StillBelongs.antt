@@ -1,13 +1,14 @@
 -- An accepted call hands back a state that belongs together; the state of a refused new one gets 7 from every later call. Assumes nothing.
 use mathlib.Core.Path.{◌≡◌, refl, ap}
 use mathlib.Core.Logic.{⊎_elim}
-use mathlib.Core.Bool.{Bool, true, false, cond}
+use mathlib.Core.Bool.{Bool, true, false, cond, not}
 use mathlib.Core.List.{List}
 use Prim.Native.Nat.{ℕ, ◌+◌, ◌*◌, ◌/◌, ◌≤◌, ◌<◌}
 use native.Mathlib.Omega.{arith}
 use borrow.Author.Tests.{eq-eqb}
 use lib.Ieee.{Float}
 use lib.ListN.{length}
+use Rattle.std.proofs.lemmas.Bool.{cond_both, false_from_ne_true}
 use Rattle.sizes.specs.Sizes.{InLimits, in_limits, history_needed}
 use Rattle.sizes.proofs.Tests.{test_passed}
 use Rattle.timeline.specs.Numbers.{Called, call, runs}
@@ -20,9 +21,7 @@ use Rattle.state.specs.State.{fresh_state, zero_state, setting_in, moved_to}
 use Rattle.state.specs.Belongs.{position_bound, belongs_together}
 use Rattle.state.specs.declared.ResamplerState.{ResamplerState}
 use Rattle.state.proofs.Belonging.{Fresh, Rated, belongs_is, fresh_state_belongs, rated_belongs}
-use Rattle.judge.specs.Verdicts.{new_verdict, rate_verdict, process_verdict, reset_verdict, skip_verdict}
-use Rattle.judge.specs.declared.Verdict.{Verdict}
-use Rattle.judge.specs.declared.Verdict.TheVariants.{Accept}
+use Rattle.judge.specs.Verdicts.{Verdict, accept, new_verdict, rate_verdict, process_verdict, reset_verdict, skip_verdict}
 use Rattle.judge.proofs.Judged.{new_accepts, rate_accepts, reset_accepts, skip_accepts, zero_gets_7}
 use Rattle.update.specs.Updated.{change_of, with_setting, updated_state}
 use Rattle.update.proofs.Updates as updates
@@ -35,7 +34,7 @@ use Rattle.pinned.proofs.Verdicts.{numbered, cases, same_or_other}
 
 -- ---- by the verdict: a refusal has a number, so it claims nothing
 belonging_by : (row : QualityMapping) (given : ResamplerState) (v : Verdict) (done : Told)
-    → (v ≡ Accept → Belonging row done) → Belonging row (by_verdict v (λ r. refused r given) done)
+    → (v ≡ accept → Belonging row done) → Belonging row (by_verdict v (λ r. refused r given) done)
 belonging_by row given v done f =
     cases (λ (w : Verdict). Belonging row (by_verdict w (λ r. refused r given) done)) v (λ r e. absurd (omega (arith, numbered r))) f
 
@@ -79,9 +78,8 @@ unfolding with_setting setting_of setting_at
 settings_agree row s source = refl
 
 -- none where the state never started
-magic_none : (c : Change) → (c.started ≡ 0 → c.magic_samples ≡ 0) → c.started ≡ 0 → reshaped_magic c ≡ 0
-unfolding reshaped_magic
-magic_none c none z = rw (eq-eqb c.started 0 z) (none z)
+magic_none : (c : Change) → (c.started ≡ false → c.magic_samples ≡ 0) → c.started ≡ false → reshaped_magic c ≡ 0
+magic_none c none z = rw z (none z)
 
 module _ (row : QualityMapping) (sane : Sane row) (s : ResamplerState) where
   -- so it is one with a rate, whose numbers belong together
@@ -101,7 +99,7 @@ module _ (row : QualityMapping) (sane : Sane row) (s : ResamplerState) where
         position = omega arith;
         magic = k.magic_to;
         started = st.started;
-        unstarted = magic_none (change_of s (setting_of row source s.target)) st.unstarted;
+        unstarted = λ z. magic_none (change_of s (setting_of row source s.target)) (λ e. st.unstarted z) (ap not (eq-eqb s.started 0 z));
       }
 
   pub rate_belongs : (source : ℕ) (mem coefs : List Float) → Belonging row (rate_told row s source mem coefs)
@@ -116,10 +114,6 @@ module _ (row : QualityMapping) (sane : Sane row) (s : ResamplerState) where
       (updated_rated source (length mem) (length coefs) (updates.rate_ready row sane s source (length mem) (length coefs) v other))))
 
   -- ---- process
-  started_to : (t : Bool) → s.started ≤ 1 → cond t 1 s.started ≤ 1
-  started_to true h = omega arith
-  started_to false h = h
-
   not_started : (t : Bool) → cond t 1 s.started ≡ 0 → s.started ≡ 0
   not_started true e = absurd (omega arith)
   not_started false e = e
@@ -131,7 +125,7 @@ module _ (row : QualityMapping) (sane : Sane row) (s : ResamplerState) where
       let position = processes.call_position row sane s r inn room in
       rw e
       (record {
-        started_to = started_to (runs s.magic_samples inn room) r.started;
+        started_to = cond_both (runs s.magic_samples inn room) 1 s.started (λ x. x ≤ 1) (λ t. omega arith) (λ t. r.started);
         unstarted = λ z. let none = r.unstarted (not_started (runs s.magic_samples inn room) z) in omega (arith, law.magic);
         position_to = omega arith;
         phase_to = law.phase;
@@ -200,11 +194,7 @@ module _ (row : QualityMapping) (sane : Sane row) (s : ResamplerState) where
 -- ---- a refused new state, and every later call with its state
 pub refused_new : (target : ℕ) → (InLimits target → ⊥) → new_told target ≡ new_refused
 unfolding new_told new_verdict
-refused_new target h = rw (outside (in_limits target) refl)
-  where
-    outside : (t : Bool) → in_limits target ≡ t → in_limits target ≡ false
-    outside true e = absurd (h (test_passed target e))
-    outside false e = e
+refused_new target h = rw (false_from_ne_true (in_limits target) (λ e. h (test_passed target e)))
 
 module _ (row : QualityMapping) where
   pub zero_refused_everywhere : (source : ℕ) (mem coefs input out : List Float)

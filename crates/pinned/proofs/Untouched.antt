@@ -26,9 +26,7 @@ use Rattle.rounds.specs.Output.{weigh_of}
 use Rattle.state.specs.State.{setting_in}
 use Rattle.state.specs.declared.ResamplerState.{ResamplerState}
 use Rattle.judge.specs.Refusals.{max_call}
-use Rattle.judge.specs.Verdicts.{rate_verdict, process_verdict, reset_verdict, skip_verdict}
-use Rattle.judge.specs.declared.Verdict.{Verdict}
-use Rattle.judge.specs.declared.Verdict.TheVariants.{Accept}
+use Rattle.judge.specs.Verdicts.{Verdict, accept, rate_verdict, process_verdict, reset_verdict, skip_verdict}
 use Rattle.judge.proofs.Judged.{process_accepts, process_lengths, reset_accepts}
 use Rattle.update.specs.Updated.{change_of, with_setting, updated_state}
 use Rattle.update.proofs.Updates as updates
@@ -72,7 +70,7 @@ kept_all : (k : ℕ) (l : List Float) → KeptFrom k l l
 kept_all k l = record { long = refl; excess = refl }
 
 kept_by : (used : Told → ℕ) (s : ResamplerState) (v : Verdict) (done : Told) (before after : List Float)
-    → (v ≡ Accept → KeptFrom (used done) before after)
+    → (v ≡ accept → KeptFrom (used done) before after)
     → KeptFrom (used (by_verdict v (λ r. refused r s) done)) before (by_verdict v (λ r. before) after)
 kept_by used s v done before after f =
     cases (λ (w : Verdict). KeptFrom (used (by_verdict w (λ r. refused r s) done)) before (by_verdict w (λ r. before) after)) v
@@ -92,12 +90,12 @@ module _ (row : QualityMapping) (sane : Sane row) (s : ResamplerState) where
     abbrev judged_rate : Verdict
     judged_rate = rate_verdict row s source (length mem) (length coefs)
 
-    abbrev ready : judged_rate ≡ Accept → (s.source ≡ source → ⊥) → updates.RateReady row s source (length mem) (length coefs)
+    abbrev ready : judged_rate ≡ accept → (s.source ≡ source → ⊥) → updates.RateReady row s source (length mem) (length coefs)
     ready = updates.rate_ready row sane s source (length mem) (length coefs)
 
     -- the same rate again leaves a slice as it was
     kept_by_rate : (used : Told → ℕ) (before after : List Float)
-        → ((v : judged_rate ≡ Accept) → (s.source ≡ source → ⊥) → KeptFrom (used (accepted (updated_state s source setting) 0 0)) before after)
+        → ((v : judged_rate ≡ accept) → (s.source ≡ source → ⊥) → KeptFrom (used (accepted (updated_state s source setting) 0 0)) before after)
         → KeptFrom (used (by_verdict judged_rate (λ r. refused r s) (accepted (unless_same s source s (updated_state s source setting)) 0 0))) before
         (by_verdict judged_rate (λ r. before) (unless_same s source before after))
     kept_by_rate used before after f =
@@ -136,7 +134,7 @@ module _ (row : QualityMapping) (sane : Sane row) (s : ResamplerState) (mem coef
   abbrev done : Played Called Float
   done = played s coefs input (length out) mem
 
-  played_keeps : judged_call ≡ Accept → KeptFrom (rate_in s).alloc mem done.mem
+  played_keeps : judged_call ≡ accept → KeptFrom (rate_in s).alloc mem done.mem
   played_keeps v =
       let k = processes.call_ready row sane s (length mem) (length coefs) (length input) (length out) v in
       history_of_a_call (weigh_of (setting_in s) coefs) (rate_in s) s.magic_samples input (length out) (place_in s) mem
@@ -150,7 +148,7 @@ module _ (row : QualityMapping) (sane : Sane row) (s : ResamplerState) (mem coef
   process_keeps_excess =
       kept_by history_used s judged_call _ mem _ played_keeps
 
-  played_past : judged_call ≡ Accept → PastWritten (played_told s (length input) (length out) done.numbers) input out (played_output done out)
+  played_past : judged_call ≡ accept → PastWritten (played_told s (length input) (length out) done.numbers) input out (played_output done out)
   played_past v =
       let r = (processes.call_ready row sane s (length mem) (length coefs) (length input) (length out) v).rated in
       let law = processes.call_law row sane s r (length input) (length out) in

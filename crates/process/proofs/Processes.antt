@@ -25,8 +25,7 @@ use Rattle.calls.specs.declared.Called as made
 use Rattle.state.specs.State.{setting_in, moved_to}
 use Rattle.state.specs.declared.ResamplerState.{ResamplerState}
 use Rattle.state.proofs.Belonging.{Rated, rated, rated_limits}
-use Rattle.judge.specs.Verdicts.{process_verdict}
-use Rattle.judge.specs.declared.Verdict.TheVariants.{Accept}
+use Rattle.judge.specs.Verdicts.{accept, process_verdict}
 use Rattle.judge.proofs.Judged.{process_accepts}
 use Rattle.process.specs.Process.{rate_in, place_in, played, started_after, played_state, Plays}
 
@@ -109,7 +108,7 @@ pub record CallReady (row : QualityMapping) (s : ResamplerState) (mem coefs : �
   pub limits : Limits row (setting_in s)
   pub fits : CallFits (setting_in s) s.mem_alloc_size s.magic_samples (place_in s) mem coefs
 
-pub call_ready : (row : QualityMapping) → Sane row → (s : ResamplerState) (mem coefs inn room : ℕ) → process_verdict row s mem coefs inn room ≡ Accept
+pub call_ready : (row : QualityMapping) → Sane row → (s : ResamplerState) (mem coefs inn room : ℕ) → process_verdict row s mem coefs inn room ≡ accept
     → CallReady row s mem coefs
 call_ready row sane s mem coefs inn room e =
     let v = process_accepts row s mem coefs inn room e in

@@ -7,7 +7,7 @@ use Rattle.rates.specs.Rated.{rate_with}
 use Rattle.rounds.specs.Output.{weigh_of}
 use Rattle.state.specs.State.{setting_in, moved_to}
 use Rattle.state.specs.declared.ResamplerState.{ResamplerState}
-use Rattle.process.specs.declared.Processed.{Processed}
+use Rattle.process.specs.declared.Accepted.{Accepted}
 
 -- the rate of a state, as positions and counts are told in it
 abbrev pub rate_in : ResamplerState → Rate
@@ -36,7 +36,7 @@ abbrev pub played_output : Played Called Float → List Float → List Float
 played_output h out = paste out 0 h.out h.numbers.turn.written
 
 -- what a call answers and leaves
-pub record Plays (s : ResamplerState) (mem coefs input out : List Float) (r : Processed) (mem' out' : List Float) : Type 0 where
+pub record Plays (s : ResamplerState) (mem coefs input out : List Float) (r : Accepted) (mem' out' : List Float) : Type 0 where
   pub state : r.state ≡ played_state s (length input) (length out) (played s coefs input (length out) mem).numbers
   pub consumed : r.consumed.0 ≡ (played s coefs input (length out) mem).numbers.turn.consumed
   pub written : r.written.0 ≡ (played s coefs input (length out) mem).numbers.turn.written

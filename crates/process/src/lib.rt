@@ -7,8 +7,7 @@
 
 ghost use Rattle.std.specs.Prelude.{◌≡◌, length};
 ghost use Rattle.quality.specs.Quality.{Sane};
-ghost use Rattle.judge.specs.Verdicts.{process_verdict};
-ghost use Rattle.judge.specs.declared.Verdict.TheVariants.{Accept};
+ghost use Rattle.judge.specs.Verdicts.{accept, process_verdict};
 ghost use Rattle.process.specs.Process.{started_after, Plays};
 
 use calls::process_call;
@@ -16,9 +15,10 @@ use quality::QualityMapping;
 use rounds::{Consumed, Place, Written};
 use state::ResamplerState;
 
-// What a call did: the state for the next one, how many samples were read and how many outputs made.
+// What an accepted call gives: the state for the next one, how many samples were read and how many
+// outputs made.
 #[derive(Clone, Copy)]
-pub struct Processed {
+pub struct Accepted {
     pub state: ResamplerState,
     pub consumed: Consumed,
     pub written: Written,
@@ -28,16 +28,14 @@ pub struct Processed {
 fn started_after(state: ResamplerState, in_len: usize, room: usize) -> u32
     ensures { result ≡ started_after state in_len room }
 {
-    if state.magic_samples > 0 {
-        return 1;
-    }
-    if in_len > 0 && room > 0 {
+    if state.magic_samples > 0 || in_len > 0 && room > 0 {
         return 1;
     }
     state.started
 }
 
-// Makes the call. What the rates gave stays.
+// Makes the call. What the rates gave stays. That the row is sane stays a clause, as in `judge`, and the
+// slices stay apart, as in `resampler`.
 pub fn process(
     row: QualityMapping,
     state: ResamplerState,
@@ -45,8 +43,8 @@ pub fn process(
     coefs: &[f32],
     input: &[f32],
     out: &mut [f32],
-) -> Processed
-    requires { Sane row × (process_verdict row state (length mem.old) (length coefs.now) (length input.now) (length out.old) ≡ Accept) }
+) -> Accepted
+    requires { Sane row × (process_verdict row state (length mem.old) (length coefs.now) (length input.now) (length out.old) ≡ accept) }
     ensures { Plays state mem.old coefs.now input.now out.old result mem.new out.new }
 {
     let setting = state.setting();
@@ -58,15 +56,12 @@ pub fn process(
     let magic = state.magic_samples as usize;
     let started = started_after(state, input.len(), out.len());
     let called = process_call(setting, alloc, magic, place, mem, coefs, input, out);
-    let left = called.magic as u32;
     let turn = called.turn;
-    let consumed = turn.consumed;
-    let written = turn.written;
     let place = turn.place;
-    let state = state.moved_to(started, place.position as u32, place.phase as u32, left);
-    Processed {
-        state,
-        consumed,
-        written,
+    let left = called.magic as u32;
+    Accepted {
+        state: state.moved_to(started, place.position as u32, place.phase as u32, left),
+        consumed: turn.consumed,
+        written: turn.written,
     }
 }

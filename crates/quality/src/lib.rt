@@ -7,7 +7,8 @@ ghost use Rattle.quality.specs.Quality.{row_of};
 ghost use Rattle.quality.specs.House.{house};
 
 // A quality row: the filter's length and oversample where the rate does not fall, and the
-// bandwidths where it falls and where it does not.
+// bandwidths where it falls and where it does not. That a row is sane is no invariant of it: `new`
+// answers for any numbers.
 #[derive(Clone, Copy)]
 pub struct QualityMapping {
     pub base_length: usize,

@@ -5,16 +5,20 @@
 // for a row that is not sane or a rate out of limits.
 #![tactic(auto)]
 
+mod terms;
+
 ghost use Rattle.std.specs.Prelude.{◌≡◌, ◌≤◌};
 ghost use Rattle.sizes.specs.Sizes.{InLimits, RatioInLimits};
 ghost use Rattle.quality.specs.Quality.{Sane};
-ghost use Rattle.rates.specs.Setting.{cutoff_of, length_of, halved, oversample_of, kernel_of, coefficients_of, setting_at, setting_of};
+ghost use Rattle.rates.specs.Setting.{kernel_of, coefficients_of, setting_at, setting_of};
 
 use quality::QualityMapping;
-use ratio::{_muldiv, simplify};
+use ratio::simplify;
+use terms::Terms;
 
-// What makes an output; `Unset` before a source rate was set.
-#[derive(Clone, Copy)]
+// What makes an output; `Unset` before a source rate was set. No Option: document 01 and C number the
+// three alike (`kernel_number`).
+#[derive(Clone, Copy, PartialEq, Eq)]
 pub enum Kernel {
     Unset,
     Direct,
@@ -50,8 +54,9 @@ impl Setting {
         requires { Sane row × RatioInLimits num den }
         ensures { result ≡ setting_at row num den }
     {
-        let n = filter_length(row, num, den);
-        let oversample = oversampling(row, num, den);
+        let terms = Terms { row, num, den };
+        let n = terms.filter_length();
+        let oversample = terms.oversampling();
         let kernel = kernel_for(n, oversample, den);
         Self {
             num,
@@ -61,65 +66,10 @@ impl Setting {
             filt_len: n,
             oversample,
             coefs: coefficients(kernel, n, oversample, den),
-            cutoff: cutoff(row, num, den),
+            cutoff: terms.cutoff(),
             kernel,
         }
     }
-}
-
-// Two roundings, the product first, as in the Rust; equal rates take the bandwidth of rising ones.
-fn cutoff(row: QualityMapping, num: u32, den: u32) -> f32
-    requires { RatioInLimits num den }
-    ensures { result ≡ cutoff_of row num den }
-{
-    if num > den {
-        return row.downsample_bandwidth * casts::small(den) / casts::small(num);
-    }
-    row.upsample_bandwidth
-}
-
-// Rounded down, then up to a multiple of 8, which one that is a multiple already stays.
-fn filter_length(row: QualityMapping, num: u32, den: u32) -> u32
-    requires { Sane row × RatioInLimits num den }
-    ensures { result ≡ length_of row num den }
-{
-    let base = row.base_length;
-    if num > den {
-        let scaled = _muldiv(base as u64, num as u64, den as u64) as u32;
-        return (scaled + 7) / 8 * 8;
-    }
-    base as u32
-}
-
-// At a small row the halvings can leave 0, which becomes 1.
-fn oversampling(row: QualityMapping, num: u32, den: u32) -> u32
-    requires { Sane row × RatioInLimits num den }
-    ensures { result ≡ oversample_of row num den }
-{
-    let oversample = row.oversample as u32;
-    if num > den {
-        let left = halve(oversample, num, den);
-        if left < 1 {
-            return 1;
-        }
-        return left;
-    }
-    oversample
-}
-
-// `oversample` halved once for each x of 1, 2, 3 and 4 with 2^x * den < num, so not at all at a
-// ratio of exactly 2.
-fn halve(oversample: u32, num: u32, den: u32) -> u32
-    requires { den ≤ 192000 }
-    ensures { result ≡ halved num den 4 oversample }
-{
-    let mut left = oversample;
-    for x in 1..5u32 {
-        if (1 << x) * den < num {
-            left = left / 2;
-        }
-    }
-    left
 }
 
 // The second test, on the bytes of a direct table, is the Rust's: within the limits it always
@@ -135,6 +85,7 @@ fn kernel_for(n: u32, oversample: u32, den: u32) -> Kernel
 }
 
 // How many coefficients a kernel has; without one there are none.
+// Three bare bounds and no struct: `ResamplerState::setting` promises its answer for just these.
 pub fn coefficients(kernel: Kernel, n: u32, oversample: u32, den: u32) -> u32
     requires { (n ≤ 7680) × (oversample ≤ 16) × (den ≤ 192000) }
     ensures { result ≡ coefficients_of kernel n oversample den }

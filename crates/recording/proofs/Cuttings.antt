@@ -6,6 +6,7 @@ use Prim.Native.Nat.{ℕ, zero, suc, ◌+◌, ◌≤◌}
 use native.Mathlib.Omega.{arith}
 use lib.Ieee.{Float}
 use lib.ListN.{length, take, drop, replicate, length-replicate, length-map}
+use Rattle.std.specs.Prelude.{Ok, Err}
 use Rattle.math.specs.Numerals.{nought}
 use Rattle.sizes.specs.Sizes.{InLimits, history_needed}
 use Rattle.timeline.specs.Numbers.{Called}
@@ -14,15 +15,11 @@ use Rattle.quality.specs.declared.QualityMapping.{QualityMapping}
 use Rattle.rates.specs.Setting.{setting_of}
 use Rattle.state.specs.State.{fresh_state}
 use Rattle.state.specs.declared.ResamplerState.{ResamplerState}
-use Rattle.judge.specs.Verdicts.{process_verdict}
-use Rattle.judge.specs.declared.Verdict.{Verdict}
-use Rattle.judge.specs.declared.Verdict.TheVariants.{Refuse, Accept}
+use Rattle.judge.specs.Verdicts.{Verdict, process_verdict}
 use Rattle.process.specs.Process.{played, played_state}
-use Rattle.resampler.specs.Answers.{told, refused, accepted, by_verdict}
+use Rattle.resampler.specs.Answers.{Answer, told, refused, accepted, by_verdict}
 use Rattle.resampler.specs.Entries.{rate_history, rate_coefficients, process_told, process_history, process_output}
 use Rattle.resampler.specs.Promises.{Processes}
-use Rattle.resampler.specs.declared.Answer.{Answer}
-use Rattle.resampler.specs.declared.Answer.TheVariants.{Refused, Accepted}
 use Rattle.pinned.specs.Pinned.{first_state}
 use Rattle.pinned.proofs.First.{new_accepted, first_rate}
 use Rattle.recording.specs.Recording.{Call, Recording, Progress, whole_input, opened, after, Follows, AllFollow, with_calls}
@@ -31,14 +28,14 @@ use Rattle.recording.proofs.Reading.{read_at_last}
 
 -- ---- an answer that tells what is asked for
 abbrev answering : ResamplerState → ℕ → ℕ → Answer
-answering s consumed written = Accepted s (record { 0 = consumed }) (record { 0 = written })
+answering s consumed written = Ok (record { state = s; consumed = record { 0 = consumed }; written = record { 0 = written } })
 
 -- by the verdict
 answer_tells : (v : Verdict) (before after : ResamplerState) (consumed written : ℕ)
-    → told (by_verdict v (λ f. Refused f before) (answering after consumed written))
+    → told (by_verdict v (λ f. Err (record { refusal = f; state = before })) (answering after consumed written))
     ≡ by_verdict v (λ f. refused f before) (accepted after consumed written)
-answer_tells (Refuse f) before after consumed written = refl
-answer_tells Accept before after consumed written = refl
+answer_tells (Err f) before after consumed written = refl
+answer_tells (Ok x) before after consumed written = refl
 
 -- of a call
 module _ (row : QualityMapping) (s : ResamplerState) (mem coefs input out : List Float) where
@@ -50,7 +47,7 @@ module _ (row : QualityMapping) (s : ResamplerState) (mem coefs input out : List
 
   abbrev pub process_answer : Answer
   process_answer =
-      by_verdict verdict (λ f. Refused f s)
+      by_verdict verdict (λ f. Err (record { refusal = f; state = s }))
       (answering (played_state s (length input) (length out) numbers) numbers.turn.consumed numbers.turn.written)
 
   -- with the slices as the contract says they are

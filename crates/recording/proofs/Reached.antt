@@ -9,6 +9,7 @@ use native.Mathlib.Omega.{arith}
 use lib.Ieee.{Float}
 use lib.ListN.{length, take, drop, replicate}
 use lib.Seq.{take_all}
+use Rattle.std.specs.Prelude.{Err}
 use Rattle.math.specs.Numerals.{nought}
 use Rattle.timeline.specs.Numbers.{Called, fresh}
 use Rattle.timeline.specs.Samples.{Played, play_then, play_call}
@@ -20,15 +21,12 @@ use Rattle.quality.specs.Quality.{Sane}
 use Rattle.quality.specs.declared.QualityMapping.{QualityMapping}
 use Rattle.rates.specs.Rated.{rate_with}
 use Rattle.rates.specs.declared.Setting.{Setting}
-use Rattle.reshape.specs.Reshaped.{reshaped_magic}
 use Rattle.rounds.specs.Output.{weigh_of}
 use Rattle.state.specs.State.{fresh_state, setting_in}
 use Rattle.state.specs.Belongs.{belongs_together}
 use Rattle.state.specs.declared.ResamplerState.{ResamplerState}
-use Rattle.judge.specs.Verdicts.{process_verdict}
+use Rattle.judge.specs.Verdicts.{Verdict, accept, process_verdict}
 use Rattle.judge.specs.declared.Refusal.{Refusal}
-use Rattle.judge.specs.declared.Verdict.{Verdict}
-use Rattle.judge.specs.declared.Verdict.TheVariants.{Refuse, Accept}
 use Rattle.judge.proofs.Judged.{ProcessAccepted}
 use Rattle.update.specs.Updated.{with_setting, updated_coefficients}
 use Rattle.process.specs.Process.{place_in, played, played_output}
@@ -125,10 +123,10 @@ module _ (row : QualityMapping) (r : Recording) (h : Progress) (c : Call) where
     by_verdict_lem = rw (p.tells, p.history, p.output)
 
     -- a refused call changes nothing
-    pub refused_stays : (f : Refusal) → judged ≡ Refuse f → after h c ≡ h
+    pub refused_stays : (f : Refusal) → judged ≡ Err f → after h c ≡ h
     refused_stays f v = by_verdict_lem ∙ rw v (after_refused h f c.out)
 
-    pub refused_output : (f : Refusal) → judged ≡ Refuse f → c.out' ≡ c.out
+    pub refused_output : (f : Refusal) → judged ≡ Err f → c.out' ≡ c.out
     unfolding process_output
     refused_output f v = p.output ∙ rw v
 
@@ -143,24 +141,24 @@ module _ (row : QualityMapping) (sane : Sane row) (r : Recording) (h : Progress)
       ∙ ap (call (setting_for row r) (rate_for row r).alloc) g.coefs
 
   -- so an accepted call is one of `timeline`'s more
-  leads_on : done (leads row r h c Accept) ≡ play_then call_then (done h) (theirs row r h c)
+  leads_on : done (leads row r h c accept) ≡ play_then call_then (done h) (theirs row r h c)
   leads_on =
       after_played h (length (input row r h c)) c.out (ours row r h c) (played_length h.state h.mem h.coefs (input row r h c) (room row r h c))
       ∙ ap (play_then call_then (done h)) ours_is
 
-  pub accepted_done : judged row r h c ≡ Accept → Follows row (whole_input row r) h c → done (after h c) ≡ play_then call_then (done h) (theirs row r h c)
+  pub accepted_done : judged row r h c ≡ accept → Follows row (whole_input row r) h c → done (after h c) ≡ play_then call_then (done h) (theirs row r h c)
   accepted_done v p = ap done (by_verdict_lem row r h c p) ∙ rw v leads_on
 
   -- the state it hands back belongs together, and the history keeps its length
-  still_belongs : judged row r h c ≡ Accept → belongs_together row (leads row r h c Accept).state ≡ true
+  still_belongs : judged row r h c ≡ accept → belongs_together row (leads row r h c accept).state ≡ true
   unfolding process_told
   still_belongs v = (rw v at (process_belongs row sane h.state h.mem h.coefs (input row r h c) c.out)) refl
 
-  still_long : judged row r h c ≡ Accept → length (leads row r h c Accept).mem ≡ length h.mem
+  still_long : judged row r h c ≡ accept → length (leads row r h c accept).mem ≡ length h.mem
   unfolding process_history
   still_long v = rw v at (process_keeps_excess row sane h.state h.mem h.coefs (input row r h c) c.out).long
 
-  accepted_reaches : judged row r h c ≡ Accept → Reached row r (leads row r h c Accept)
+  accepted_reaches : judged row r h c ≡ accept → Reached row r (leads row r h c accept)
   accepted_reaches v =
       record {
         offers = g.offers ++ (offer row r h c ∷ []);
@@ -227,7 +225,7 @@ module _ (row : QualityMapping) (sane : Sane row) (r : Recording) (m : MadeUnder
   first_place = ap (λ (phase : ℕ). record { position = (setting_for row r).filt_len / 2; phase = phase }) (omega arith)
 
   first_magic : first.magic_samples ≡ 0
-  unfolding with_setting fresh_state reshaped_magic
+  unfolding with_setting fresh_state
   first_magic = refl
 
   pub first_reached : Reached row r (opened r)

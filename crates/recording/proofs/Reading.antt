@@ -8,11 +8,12 @@ use native.Mathlib.Omega.{arith}
 use lib.Dec.{eqb, ltb}
 use lib.Ieee.{Float}
 use lib.ListN.{length, drop, length-take, length-drop}
+use Rattle.std.specs.Prelude.{Err}
+use Rattle.std.proofs.lemmas.Bool.{cases_lt}
 use Rattle.math.specs.Numerals.{nought}
 use Rattle.timeline.specs.Numbers.{Called, fresh, call}
 use Rattle.timeline.specs.Samples.{Played}
 use Rattle.timeline.specs.Recording.{call_then, one_call_more}
-use Rattle.timeline.proofs.Places.{below_or_not}
 use Rattle.timeline.proofs.Turns.{Moved}
 use Rattle.timeline.proofs.Count.{never_more, one_more_goes_on, one_more_reads, one_more_reads_its_own}
 use Rattle.timeline.proofs.Streams.{length_closed}
@@ -21,9 +22,8 @@ use Rattle.quality.specs.Quality.{Sane}
 use Rattle.quality.specs.declared.QualityMapping.{QualityMapping}
 use Rattle.state.specs.declared.ResamplerState.{ResamplerState}
 use Rattle.judge.specs.Refusals.{max_call}
-use Rattle.judge.specs.Verdicts.{refuse_if}
+use Rattle.judge.specs.Verdicts.{accept, refuse_if}
 use Rattle.judge.specs.declared.Refusal.TheVariants.{EmptyInput, TooLong}
-use Rattle.judge.specs.declared.Verdict.TheVariants.{Refuse, Accept}
 use Rattle.process.specs.Process.{place_in}
 use Rattle.resampler.specs.Answers.{Told, refused, by_verdict}
 use Rattle.resampler.specs.Entries.{process_told}
@@ -48,7 +48,7 @@ module _ (row : QualityMapping) (sane : Sane row) (r : Recording) (m : MadeUnder
       (length-drop h.consumed (whole_input row r) ∙ ap (λ (k : ℕ). k - h.consumed) (length_closed nought (rate_for row r) r.samples))
 
   -- where it is accepted, its numbers are those of one offer more
-  numbers_after : judged row r h c ≡ Accept
+  numbers_after : judged row r h c ≡ accept
       → (done (after h c)).numbers ≡ one_call_more (rate_for row r) (to_read row r) (offer row r h c) (done h).numbers
   numbers_after v =
       ap (λ (d : Played Called Float). d.numbers) (accepted_done row sane r h g c v p)
@@ -58,12 +58,12 @@ module _ (row : QualityMapping) (sane : Sane row) (r : Recording) (m : MadeUnder
 
   -- it is accepted where a sample is left and offered, within what one call takes
   is_accepted : 0 < c.offers → h.consumed < to_read row r → min c.offers (to_read row r - h.consumed) ≤ max_call → length c.out ≤ max_call
-      → judged row r h c ≡ Accept
+      → judged row r h c ≡ accept
   is_accepted some left offers_to room_to =
       call_accepted row h.state (length h.mem) (length h.coefs) g.fits _ _ (omega (arith, input_length)) (omega (arith, input_length)) room_to
 
   -- without a sample it is refused
-  empty_refused : length (offered (whole_input row r) h c) ≡ 0 → judged row r h c ≡ Refuse EmptyInput
+  empty_refused : length (offered (whole_input row r) h c) ≡ 0 → judged row r h c ≡ Err EmptyInput
   empty_refused e = by_input row h.state (length h.mem) (length h.coefs) g.fits _ (length c.out) ∙ rw e
 
   -- a sample is read or an output is made
@@ -77,7 +77,7 @@ module _ (row : QualityMapping) (sane : Sane row) (r : Recording) (m : MadeUnder
   -- everything that is left is read
   reads_all : to_read row r ≤ h.consumed + c.offers → to_read row r ≤ h.consumed + max_call
       → total row r < h.written + length c.out → length c.out ≤ max_call → (after h c).consumed ≡ to_read row r
-  reads_all all left_to room room_to = elim (below_or_not h.consumed (to_read row r)) [
+  reads_all all left_to room room_to = elim (cases_lt h.consumed (to_read row r)) [
     | inl left ↦
         (ap (λ (d : Called). d.turn.consumed) (numbers_after (is_accepted (omega arith) left (omega arith) room_to))
         ∙ one_more_reads (rate_for row r) (rate_fit row sane r m) (M row r) (done h).numbers (offer row r h c) so_far all (rw (← total_is row r) room))
@@ -87,7 +87,7 @@ module _ (row : QualityMapping) (sane : Sane row) (r : Recording) (m : MadeUnder
   -- all that it is offered is read, where that is no more than is left, with more room than the outputs that it can lead to
   pub reads_its_own : h.consumed + c.offers ≤ to_read row r → c.offers ≤ max_call → length c.out ≤ max_call
       → den row r * c.offers + num row r ≤ length c.out * num row r → (after h c).consumed ≡ h.consumed + c.offers
-  reads_its_own left offers_to room_to room = elim (below_or_not 0 c.offers) [
+  reads_its_own left offers_to room_to room = elim (cases_lt 0 c.offers) [
     | inl some ↦
         (ap (λ (d : Called). d.turn.consumed) (numbers_after (is_accepted some (omega arith) (omega arith) room_to))
         ∙ one_more_reads_its_own (rate_for row r) (rate_fit row sane r m) (done h).numbers (offer row r h c) so_far left room)
@@ -100,7 +100,7 @@ module _ (row : QualityMapping) (sane : Sane row) (r : Recording) (m : MadeUnder
 
 -- the number of each verdict that its input and its room can lead to
 number_by : (t u : Bool) (s : ResamplerState) (done : Told) → done.number ≡ 0
-    → (by_verdict (refuse_if t EmptyInput (refuse_if u TooLong Accept)) (λ f. refused f s) done).number ≡ cond t 4 (cond u 5 0)
+    → (by_verdict (refuse_if t EmptyInput (refuse_if u TooLong accept)) (λ f. refused f s) done).number ≡ cond t 4 (cond u 5 0)
 number_by true u s done e = refl
 number_by false true s done e = refl
 number_by false false s done e = e
@@ -138,7 +138,7 @@ module _ (row : QualityMapping) (sane : Sane row) (r : Recording) (m : MadeUnder
   all_get_on : (h : Progress) (cs : List Call) → Reached row r h → AllFollow row (whole_input row r) h cs → AllGetOn cs
       → (to_read row r ≤ (after_all h cs).consumed) ⊎ (h.consumed + h.written + length cs ≤ (after_all h cs).consumed + (after_all h cs).written)
   all_get_on h [] g f k = inr (omega arith)
-  all_get_on h (c ∷ cs) g f k = elim (below_or_not h.consumed (to_read row r)) [
+  all_get_on h (c ∷ cs) g f k = elim (cases_lt h.consumed (to_read row r)) [
     | inl left ↦ elim (all_get_on (after h c) cs (one_more_reached row sane r h g c f.0) f.1 k.1) [
       | inl all ↦ inl all
       | inr some ↦ inr (omega (arith, gets_on row sane r m h g c f.0 k.0 left))

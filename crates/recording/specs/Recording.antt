@@ -11,10 +11,9 @@ use Rattle.rates.specs.Setting.{setting_of}
 use Rattle.rates.specs.Rated.{rate_with}
 use Rattle.rates.specs.declared.Setting.{Setting}
 use Rattle.state.specs.declared.ResamplerState.{ResamplerState}
-use Rattle.resampler.specs.Answers.{Told, told}
+use Rattle.resampler.specs.Answers.{Answer, Told, told}
 use Rattle.resampler.specs.Entries.{new_told}
 use Rattle.resampler.specs.Promises.{SetsRate, Processes}
-use Rattle.resampler.specs.declared.Answer.{Answer}
 
 -- one call of `process_float`
 pub record Call : Type 0 where

@@ -1,14 +1,15 @@
 -- Document 01, demand 3 and "Numbers worked by hand": closed totals, told for any two rates and any count of samples.
 -- Assumes nothing.
-use Rattle.std.specs.Prelude.{ℕ, ◌^◌, Bool, true, false, cond, not, ◌||◌, ltb}
+use Rattle.std.specs.Prelude.{ℕ, ◌^◌, Bool, true, false, cond, not, ◌||◌, ltb, Result, Ok, Err}
 use Rattle.ratio.specs.Lowest.{lowest}
 use Rattle.sizes.specs.Sizes.{in_limits}
 use Rattle.rates.specs.Rated.{closed_total}
 use Rattle.judge.specs.Refusals.{refusal_number}
 use Rattle.judge.specs.declared.Refusal.{Refusal}
 use Rattle.judge.specs.declared.Refusal.TheVariants.{Rate}
-use Rattle.recording.specs.declared.Total.{Total}
-use Rattle.recording.specs.declared.Total.TheVariants.{Refused, TooMany, Closed}
+use Rattle.rounds.specs.declared.Written.{Written}
+use Rattle.recording.specs.declared.TotalError.{TotalError}
+use Rattle.recording.specs.declared.TotalError.TheVariants.{Refused, TooMany}
 
 -- document 01's number, 0 where it has none; whether the total is the answer; and the total, 0 where it is not
 pub record TotalTold : Type 0 where
@@ -29,10 +30,10 @@ abbrev pub counted_total : ℕ → TotalTold
 counted_total total = record { number = 0; counted = true; total = total }
 
 -- what an answer tells
-abbrev pub total_told : Total → TotalTold
-total_told (Refused r) = refused_total r
-total_told TooMany = too_many_total
-total_told (Closed written) = counted_total written.0
+abbrev pub total_told : Result Written TotalError → TotalTold
+total_told (Ok written) = counted_total written.0
+total_told (Err (Refused r)) = refused_total r
+total_told (Err TooMany) = too_many_total
 
 -- the most samples of a recording whose total is told
 abbrev pub max_samples : ℕ

@@ -19,31 +19,28 @@ use resampler::{Consumed, Refusal, Written};
 // bits, so nothing overflows.
 const MAX_SAMPLES: u64 = 1 << 40;
 
-// How many outputs a closed recording has. Refused: a rate is out of limits. TooMany: there are more
+// Why a closed recording's total is not told. Refused: a rate is out of limits. TooMany: there are more
 // samples than a total is told for, which no number of document 01 fits.
-#[derive(Clone, Copy)]
-pub enum Total {
+#[derive(Clone, Copy, PartialEq, Eq)]
+pub enum TotalError {
     Refused(Refusal),
     TooMany,
-    Closed(Written),
 }
 
 // How many outputs a closed recording has, worked out from its length and its rates alone. `samples` are
 // those of the recording itself, without the zeros that close it: those are read too, but add nothing
 // here. The rates are judged before the count, so a bad rate gets refusal 1 however many samples there are.
-pub fn closed_total(samples: Consumed, source: u32, target: u32) -> Total
+// The two rates stay apart, as README and C have them.
+pub fn closed_total(samples: Consumed, source: u32, target: u32) -> Result<Written, TotalError>
     ensures { total_told result ≡ closed_total_told source target samples.0 }
 {
-    if !sizes::in_limits(source) {
-        return Total::Refused(Refusal::Rate);
-    }
-    if !sizes::in_limits(target) {
-        return Total::Refused(Refusal::Rate);
+    if !sizes::in_limits(source) || !sizes::in_limits(target) {
+        return Err(TotalError::Refused(Refusal::Rate));
     }
     if MAX_SAMPLES < samples.0 {
-        return Total::TooMany;
+        return Err(TotalError::TooMany);
     }
-    Total::Closed(Written(outputs_of(samples.0, source, target)))
+    Ok(Written(outputs_of(samples.0, source, target)))
 }
 
 // Output k stands at k * num / den samples, and the recording has each one that stands before its

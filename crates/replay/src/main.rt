@@ -8,76 +8,71 @@
 #![tactic(auto)]
 
 mod answer;
-mod lexer;
-mod orders;
-mod places;
+mod order;
 mod player;
-mod segments;
-mod words;
+mod script;
+mod segment;
 
+use order::Line;
+use player::Player;
+use script::Script;
 use std::io::Read;
 
-// What is carried from line to line beside the arrays: the byte that comes next, the number of its
-// line, and whether to go on.
+// Why a run ends before its script does: a byte that does not fit its line, a line that fits but cannot be
+// played, a read or a write that failed.
 #[derive(Clone, Copy)]
-struct Held {
-    next: u32,
-    line: u64,
-    goes_on: bool,
+pub enum Fault {
+    BadLine,
+    Unplayable,
+    Unreadable,
+    Unwritable,
 }
 
+// Nothing says that a script ends, so its lines are counted, up to a number that no run uses up.
 fn main(rt: HostRuntime) {
-    let mut script = rt.stdin();
-    let mut kept = [0u32; 25];
-    let mut history = [0.0f32; 8192];
-    let mut coefs = [0.0f32; 8192];
-    let mut input = [0.0f32; 16384];
-    let mut output = [0.0f32; 16384];
-    let mut held = start(&mut script);
-    for _ in 0..u64::MAX {
-        if !held.goes_on {
-            break;
+    let mut script = Script::new(rt.stdin());
+    let mut player = Player::new();
+    for line in 1..=u64::MAX {
+        match turn(&rt, &mut script, &mut player) {
+            Ok(true) => {}
+            Ok(false) => break,
+            Err(fault) => {
+                report(&rt, line, fault);
+                // Where the bytes of the line fit, the one that comes next is taken, as after every line.
+                if matches!(fault, Fault::Unplayable | Fault::Unwritable) {
+                    let _ = script.step();
+                }
+                break;
+            }
         }
-        held = turn(
-            &rt,
-            held,
-            &mut kept,
-            &mut history,
-            &mut coefs,
-            &mut input,
-            &mut output,
-            &mut script,
-        );
     }
 }
 
-fn start<R: Read>(script: &mut R) -> Held {
-    Held {
-        next: lexer::read_byte(script),
-        line: 1,
-        goes_on: true,
-    }
-}
-
-// One line. The byte after it is asked for only once the answer is out, so that a script can be typed.
+// One line, and whether the script goes on. The next line is read only once the answer is out, so that a
+// script can be typed.
 fn turn<R: Read>(
-    rt: &(impl Print + Eprint),
-    held: Held,
-    kept: &mut [u32; 25],
-    history: &mut [f32],
-    coefs: &mut [f32],
-    input: &mut [f32],
-    output: &mut [f32],
-    script: &mut R,
-) -> Held {
-    let order = orders::read(held.next, kept, input, script);
-    let changed = player::change(order, *kept, history, coefs, input);
-    let played = player::call(order, changed, history, coefs, input, output);
-    *kept = played;
-    let goes_on = answer::tell(rt, order.name, held.line, played, history, coefs, output);
-    Held {
-        next: lexer::step(order.next, script),
-        line: std::num::wrapping_add_u64(held.line, 1),
-        goes_on,
+    rt: &impl Print,
+    script: &mut Script<R>,
+    player: &mut Player,
+) -> Result<bool, Fault> {
+    match Line::read(script, player)? {
+        Line::End => Ok(false),
+        Line::Remark => Ok(true),
+        Line::Order(order) => {
+            player.play(order).map_err(|_| Fault::Unplayable)?;
+            let player = &*player;
+            println!(rt; "{player}").map_err(|_| Fault::Unwritable)?;
+            Ok(true)
+        }
     }
+}
+
+// Says why a run ends before its script does. Where not even that can be written there is nothing left to
+// do.
+fn report(rt: &(impl Print + Eprint), line: u64, fault: Fault) {
+    let _ = match fault {
+        Fault::BadLine | Fault::Unplayable => println!(rt; "bad line {line}"),
+        Fault::Unreadable => eprintln!(rt; "replay: cannot read the script"),
+        Fault::Unwritable => eprintln!(rt; "replay: cannot write the answer"),
+    };
 }

@@ -1,226 +1,127 @@
 // Plays an order: one call of the resampler, as a program in C makes it, or a change to what is lent to it.
 //
-// The numbers of the state are kept one by one, so that a script can give it any numbers at all, also a
-// kernel that there is none of. What is lent are the first entries of the player's own arrays, as many as
-// the kept lengths say.
-use crate::orders::Order;
-use crate::places::{
-    COEFFICIENTS, CONSUMED, HISTORY, LEND, NEW, PROCESS, RATE, REFUSAL, RESET, ROOM, SKIP, WRITTEN,
-};
-use crate::segments::least;
+// The state is the flat one, so that a script can give it any numbers at all, also a kernel that there is
+// none of.
+use crate::order::{Lent, Order};
+use crate::segment::Samples;
+use crate::{Fault, segment};
+use arrayvec::ArrayVec;
 use flat::{FlatAnswer, FlatState};
+use state::ResamplerState;
+
+// The longest that a lent slice can be.
+const MOST_LENT: usize = 8192;
 
 // What an output entry holds before a call, so that one that is left alone shows.
 const UNWRITTEN: u32 = 0x4b1d_f00d;
 
-// The operations that are no call, and what every answer begins with.
-pub fn change(
-    order: Order,
-    kept: [u32; 25],
-    history: &mut [f32],
-    coefs: &mut [f32],
-    input: &[f32],
-) -> [u32; 25] {
-    let numbers = begun(order, kept);
-    if order.slice == HISTORY {
-        poke(history, order.first, input, order.count);
-        return numbers;
+// What the last order answered, with the state that it left; what is lent; what the last line named; and the
+// output of the last order, which is empty where that was no call of `process`.
+#[derive(Drop)]
+pub struct Player {
+    pub answer: FlatAnswer,
+    pub history: ArrayVec<f32, MOST_LENT>,
+    pub coefs: ArrayVec<f32, MOST_LENT>,
+    pub input: Samples,
+    pub output: Samples,
+}
+
+impl Player {
+    // Nothing is lent and nothing was played.
+    pub fn new() -> Self {
+        Player {
+            answer: no_call(ResamplerState::zero().into()),
+            history: ArrayVec::new(),
+            coefs: ArrayVec::new(),
+            input: Samples::new(),
+            output: Samples::new(),
+        }
     }
-    if order.slice == COEFFICIENTS {
-        poke(coefs, order.first, input, order.count);
-        return numbers;
+
+    // Plays an order whose samples are the input.
+    pub fn play(&mut self, order: Order) -> Result<(), Fault> {
+        let state = self.answer.state;
+        self.output.clear();
+        self.answer = match order {
+            Order::New { target } => capi::marshdeck_new(target),
+            Order::Rate { source } => capi::marshdeck_set_rate(
+                state,
+                source,
+                self.history.as_mut_slice(),
+                self.coefs.as_mut_slice(),
+            ),
+            Order::Process { room } => self.process(room)?,
+            Order::Lend {
+                history,
+                coefs,
+                filler,
+            } => {
+                resize(&mut self.history, history, filler)?;
+                resize(&mut self.coefs, coefs, filler)?;
+                no_call(state)
+            }
+            Order::Poke { lent, index } => {
+                self.poke(lent, index)?;
+                no_call(state)
+            }
+            Order::Reset => capi::marshdeck_reset(state, self.history.as_mut_slice()),
+            Order::Skip => capi::marshdeck_skip(state),
+            Order::Forge { state } => no_call(state),
+        };
+        Ok(())
     }
-    lend(order, numbers, history, coefs)
-}
 
-// Nothing is refused yet.
-fn begun(order: Order, kept: [u32; 25]) -> [u32; 25] {
-    let mut numbers = kept;
-    numbers[REFUSAL] = 0;
-    numbers[CONSUMED] = 0;
-    numbers[WRITTEN] = 0;
-    numbers[ROOM] = room(order.name, order.first);
-    numbers
-}
-
-fn room(name: usize, first: u32) -> u32 {
-    if name == PROCESS {
-        return first;
+    // The output is made ready before anything is refused, so that a refused call shows it untouched.
+    fn process(&mut self, room: u32) -> Result<FlatAnswer, Fault> {
+        resize(&mut self.output, room, bits::float_of(UNWRITTEN))?;
+        Ok(capi::marshdeck_process(
+            self.answer.state,
+            self.history.as_mut_slice(),
+            self.coefs.as_slice(),
+            self.input.as_slice(),
+            self.output.as_mut_slice(),
+        ))
     }
-    0
-}
 
-// What is cut off is forgotten: a slice that grows again is filled. Entries past its new length may be
-// filled too, since they are nobody's.
-fn lend(order: Order, kept: [u32; 25], history: &mut [f32], coefs: &mut [f32]) -> [u32; 25] {
-    if order.name != LEND {
-        return kept;
-    }
-    fill(history, kept[HISTORY], order.pattern);
-    fill(coefs, kept[COEFFICIENTS], order.pattern);
-    let mut numbers = kept;
-    numbers[HISTORY] = order.first;
-    numbers[COEFFICIENTS] = order.second;
-    numbers
-}
-
-// All entries from one on take the value of a pattern.
-fn fill(samples: &mut [f32], from: u32, pattern: u32) {
-    let value = bits::float_of(pattern);
-    for i in from as usize..samples.len() {
-        samples[i] = value;
-    }
-}
-
-// Entries from `index` on take the first `count` of the input.
-fn poke(samples: &mut [f32], index: u32, input: &[f32], count: u32) {
-    let from = least(index as usize, samples.len());
-    let n = least(count as usize, input.len());
-    copy(&mut samples[from..], &input[0..n]);
-}
-
-fn copy(samples: &mut [f32], input: &[f32]) {
-    let end = least(samples.len(), input.len());
-    for i in 0..end {
-        samples[i] = input[i];
+    // The poked slice takes the input.
+    fn poke(&mut self, lent: Lent, index: u32) -> Result<(), Fault> {
+        match lent {
+            Lent::History => poke(self.history.as_mut_slice(), index, self.input.as_slice()),
+            Lent::Coefs => poke(self.coefs.as_mut_slice(), index, self.input.as_slice()),
+        }
     }
 }
 
-// The calls. The output is made ready before anything is refused, so that a refused call shows it
-// untouched.
-pub fn call(
-    order: Order,
-    kept: [u32; 25],
-    history: &mut [f32],
-    coefs: &mut [f32],
-    input: &[f32],
-    output: &mut [f32],
-) -> [u32; 25] {
-    fill(output, 0, UNWRITTEN);
-    if order.name == PROCESS {
-        return process(order.count, kept, history, coefs, input, output);
+// Entries from `index` on take others. None of them is past the end.
+fn poke(entries: &mut [f32], index: u32, others: &[f32]) -> Result<(), Fault> {
+    let from = index as usize;
+    let to = from + others.len();
+    if to > entries.len() {
+        return Err(Fault::BadLine);
     }
-    call_unheard(order, kept, history, coefs)
+    entries[from..to].copy_from_slice(others);
+    Ok(())
 }
 
-// The calls that take no samples.
-fn call_unheard(
-    order: Order,
-    kept: [u32; 25],
-    history: &mut [f32],
-    coefs: &mut [f32],
-) -> [u32; 25] {
-    if order.name == RATE {
-        return rate(order.first, kept, history, coefs);
+// The answer of an operation that is no call.
+fn no_call(state: FlatState) -> FlatAnswer {
+    FlatAnswer {
+        refusal: 0,
+        consumed: 0,
+        written: 0,
+        state,
     }
-    if order.name == RESET {
-        return reset(kept, history);
+}
+
+// What is cut off is gone: a slice that grows again is filled.
+fn resize<const N: usize>(
+    entries: &mut ArrayVec<f32, N>,
+    len: u32,
+    filler: f32,
+) -> Result<(), Fault> {
+    entries.truncate(len as usize);
+    for _ in entries.len()..len as usize {
+        segment::push(entries, filler)?;
     }
-    call_alone(order.name, order.first, kept)
-}
-
-// The calls that take no slice.
-fn call_alone(name: usize, target: u32, kept: [u32; 25]) -> [u32; 25] {
-    if name == NEW {
-        return keep(capi::marshdeck_new(target), kept);
-    }
-    if name == SKIP {
-        return keep(capi::marshdeck_skip(state_in(kept)), kept);
-    }
-    kept
-}
-
-fn process(
-    count: u32,
-    kept: [u32; 25],
-    history: &mut [f32],
-    coefs: &[f32],
-    input: &[f32],
-    output: &mut [f32],
-) -> [u32; 25] {
-    let h = least(kept[HISTORY] as usize, history.len());
-    let c = least(kept[COEFFICIENTS] as usize, coefs.len());
-    let n = least(count as usize, input.len());
-    let room = least(kept[ROOM] as usize, output.len());
-    keep(
-        capi::marshdeck_process(
-            state_in(kept),
-            &mut history[0..h],
-            &coefs[0..c],
-            &input[0..n],
-            &mut output[0..room],
-        ),
-        kept,
-    )
-}
-
-fn rate(source: u32, kept: [u32; 25], history: &mut [f32], coefs: &mut [f32]) -> [u32; 25] {
-    let h = least(kept[HISTORY] as usize, history.len());
-    let c = least(kept[COEFFICIENTS] as usize, coefs.len());
-    keep(
-        capi::marshdeck_set_rate(state_in(kept), source, &mut history[0..h], &mut coefs[0..c]),
-        kept,
-    )
-}
-
-fn reset(kept: [u32; 25], history: &mut [f32]) -> [u32; 25] {
-    let h = least(kept[HISTORY] as usize, history.len());
-    keep(
-        capi::marshdeck_reset(state_in(kept), &mut history[0..h]),
-        kept,
-    )
-}
-
-// Keeps what a call answered, whether it was accepted or not.
-fn keep(answer: FlatAnswer, kept: [u32; 25]) -> [u32; 25] {
-    let state = answer.state;
-    [
-        answer.refusal,
-        answer.consumed,
-        answer.written,
-        state.target,
-        state.source,
-        state.num,
-        state.den,
-        state.filt_len,
-        state.mem_alloc_size,
-        state.buffer_size,
-        state.int_advance,
-        state.frac_advance,
-        bits::bits_of(state.cutoff),
-        state.oversample,
-        state.started,
-        state.kernel,
-        state.last_sample,
-        state.samp_frac_num,
-        state.magic_samples,
-        0,
-        0,
-        0,
-        kept[HISTORY],
-        kept[COEFFICIENTS],
-        kept[ROOM],
-    ]
-}
-
-// The state that is kept.
-fn state_in(kept: [u32; 25]) -> FlatState {
-    FlatState {
-        target: kept[3],
-        source: kept[4],
-        num: kept[5],
-        den: kept[6],
-        filt_len: kept[7],
-        mem_alloc_size: kept[8],
-        buffer_size: kept[9],
-        int_advance: kept[10],
-        frac_advance: kept[11],
-        cutoff: bits::float_of(kept[12]),
-        oversample: kept[13],
-        started: kept[14],
-        kernel: kept[15],
-        last_sample: kept[16],
-        samp_frac_num: kept[17],
-        magic_samples: kept[18],
-    }
+    Ok(())
 }

@@ -1,12 +1,15 @@
 -- Document 01, "Refusal numbers": what each case of an answer tells. Assumes nothing.
-use Rattle.std.specs.Prelude.{ℕ}
+use Rattle.std.specs.Prelude.{◌≡◌, ℕ, Result, Ok, Err, MatchResult}
 use Rattle.state.specs.declared.ResamplerState.{ResamplerState}
 use Rattle.judge.specs.Refusals.{refusal_number}
 use Rattle.judge.specs.declared.Refusal.{Refusal}
-use Rattle.judge.specs.declared.Verdict.{Verdict}
-use Rattle.judge.specs.declared.Verdict.TheVariants.{Refuse, Accept}
-use Rattle.resampler.specs.declared.Answer.{Answer}
-use Rattle.resampler.specs.declared.Answer.TheVariants.{Refused, Accepted}
+use Rattle.judge.specs.Verdicts.{Verdict}
+use Rattle.process.specs.declared.Accepted.{Accepted}
+use Rattle.resampler.specs.declared.Refused.{Refused}
+
+-- what a call answers
+abbrev pub Answer : Type 0
+Answer = Result Accepted Refused
 
 -- document 01's number, 0 where the call is accepted; samples consumed and outputs written; and the state for the next call
 pub record Told : Type 0 where
@@ -25,10 +28,14 @@ accepted s consumed written = record { number = 0; consumed = consumed; written 
 
 -- what an answer tells
 abbrev pub told : Answer → Told
-told (Refused r s) = refused r s
-told (Accepted s consumed written) = accepted s consumed.0 written.0
+told (Err r) = refused r.refusal r.state
+told (Ok a) = accepted a.state a.consumed.0 a.written.0
+
+-- what `?` takes of a verdict on a call with the state s: a refusal has that state beside it
+abbrev pub Judged : Verdict → ResamplerState → Result (Unit {0}) Refused → Type 0
+Judged v s r = MatchResult v (λ x. r ≡ Ok x) (λ refusal. r ≡ Err (record { refusal = refusal; state = s }))
 
 -- what a verdict leads to
 abbrev pub by_verdict : {A : Type 0} → Verdict → (Refusal → A) → A → A
-by_verdict (Refuse r) refusal done = refusal r
-by_verdict Accept refusal done = done
+by_verdict (Err r) refusal done = refusal r
+by_verdict (Ok x) refusal done = done

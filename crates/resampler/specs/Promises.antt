@@ -4,9 +4,8 @@
 use Rattle.std.specs.Prelude.{◌≡◌, List, ℕ, Float}
 use Rattle.quality.specs.declared.QualityMapping.{QualityMapping}
 use Rattle.state.specs.declared.ResamplerState.{ResamplerState}
-use Rattle.resampler.specs.Answers.{told}
+use Rattle.resampler.specs.Answers.{Answer, told}
 use Rattle.resampler.specs.Entries.{rate_told, rate_history, rate_coefficients, process_told, process_history, process_output, reset_told, reset_history}
-use Rattle.resampler.specs.declared.Answer.{Answer}
 
 -- set rate
 pub record SetsRate (row : QualityMapping) (s : ResamplerState) (source : ℕ) (mem coefs : List Float) (answer : Answer) (mem' coefs' : List Float) : Type 0 where

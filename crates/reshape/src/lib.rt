@@ -5,13 +5,14 @@
 #![tactic(auto)]
 
 ghost use Rattle.std.specs.Prelude.{◌≡◌, ◌+◌, ◌*◌, ◌≤◌, ◌<◌, length};
-ghost use Rattle.reshape.specs.Reshaped.{raised, longer, longer_magic, reshaped_history, reshaped_magic, ChangeFits};
+ghost use Rattle.reshape.specs.Reshaped.{raised, longer, longer_magic, shorter, shorter_magic, reshaped_history, reshaped_magic, ChangeFits};
 
-// A change of rate, as the history sees it: its length before and after, the filter's length before
-// and after, the magic samples before, and 0 where no round ever ran.
+// A change of rate, as the history sees it: whether a round ever ran, the history's length before and
+// after, the filter's length before and after, and the magic samples before.
+// The state's `started` is a number, 0 or 1, since C has it so.
 #[derive(Clone, Copy)]
 pub struct Change {
-    pub started: usize,
+    pub started: bool,
     pub old_alloc_size: usize,
     pub mem_alloc_size: usize,
     pub old_length: usize,
@@ -19,29 +20,43 @@ pub struct Change {
     pub magic_samples: usize,
 }
 
-// The first count entries go up by `by` places, and those below become 0.0.
+// The first count entries go up by `by` places, and those below become 0.0. By numbers, as in `history`.
 fn raise(mem: &mut [f32], by: usize, count: usize)
     requires { by + count ≤ length mem.old }
     ensures { mem.new ≡ raised mem.old by count }
 {
-    history::move_up(mem, 0, by, count);
+    history::move_within(mem, 0, by, count);
     history::fill_zero(mem, 0, by);
 }
 
 // A longer filter. Answers the new number of magic samples.
-fn lengthen(mem: &mut [f32], old: usize, n: usize, m: usize) -> usize
-    requires { (0 < old) × ((old ≤ n) × ((old + 2 * m ≤ length mem.old) × (n ≤ length mem.old))) }
-    ensures { (result ≡ longer_magic old n m) × (mem.new ≡ longer mem.old old n m) }
+fn lengthen(mem: &mut [f32], change: Change) -> usize
+    requires { (0 < change.old_length) × (change.old_length ≤ change.filt_len) × (change.old_length + 2 * change.magic_samples ≤ length mem.old) × (change.filt_len ≤ length mem.old) }
+    ensures { (result ≡ longer_magic change.old_length change.filt_len change.magic_samples) × (mem.new ≡ longer mem.old change.old_length change.filt_len change.magic_samples) }
 {
-    raise(mem, m, old - 1);
-    let e = old + 2 * m;
+    let n = change.filt_len;
+    let m = change.magic_samples;
+    raise(mem, m, change.old_length - 1);
+    let e = change.old_length + 2 * m;
     if e < n {
         raise(mem, n - e, e - 1);
         return 0;
     }
     let p = (e - n) / 2;
-    history::move_down(mem, p, 0, n - 1 + p);
+    history::move_within(mem, p, 0, n - 1 + p);
     p
+}
+
+// A shorter filter. Answers the new number of magic samples.
+fn shorten(mem: &mut [f32], change: Change) -> usize
+    requires { (0 < change.filt_len) × (change.filt_len ≤ change.old_length) × (change.old_length + 2 * change.magic_samples ≤ length mem.old) }
+    ensures { (result ≡ shorter_magic change.old_length change.filt_len change.magic_samples) × (mem.new ≡ shorter mem.old change.old_length change.filt_len change.magic_samples) }
+{
+    let n = change.filt_len;
+    let m = change.magic_samples;
+    let s = (change.old_length - n) / 2;
+    history::move_within(mem, s, 0, n - 1 + s + m);
+    m + s
 }
 
 // The history over a change of rate. Answers the new number of magic samples. Where the length
@@ -51,21 +66,16 @@ pub fn reshape_history(mem: &mut [f32], change: Change) -> usize
     ensures { (result ≡ reshaped_magic change) × (mem.new ≡ reshaped_history mem.old change) }
 {
     let alloc = change.mem_alloc_size;
-    let old = change.old_length;
-    let n = change.filt_len;
-    let m = change.magic_samples;
     history::fill_zero(mem, change.old_alloc_size, alloc - change.old_alloc_size);
-    if change.started == 0 {
+    if !change.started {
         history::fill_zero(mem, 0, alloc);
-        return m;
+        return change.magic_samples;
     }
-    if old < n {
-        return lengthen(mem, old, n, m);
+    if change.old_length < change.filt_len {
+        return lengthen(mem, change);
     }
-    if n < old {
-        let s = (old - n) / 2;
-        history::move_down(mem, s, 0, n - 1 + s + m);
-        return m + s;
+    if change.filt_len < change.old_length {
+        return shorten(mem, change);
     }
-    m
+    change.magic_samples
 }

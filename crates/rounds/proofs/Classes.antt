@@ -28,6 +28,7 @@ use Rattle.lanes.specs.Layout.{LayoutFits}
 use Rattle.lanes.specs.Class.{Classed, ClassFits}
 use Rattle.lanes.specs.declared.Weave.{Weave}
 use Rattle.rounds.specs.Output.{phase_of, weigh_of}
+use Rattle.rounds.specs.Rounds.{Playable}
 use Rattle.rounds.specs.Runs.{RunFits, Ran, WeaveFits}
 use Rattle.rounds.proofs.Running.{output_of}
 use Rattle.rounds.proofs.Phases.{output_from}
@@ -111,29 +112,29 @@ module _ (s : Setting) (coefs mem : List Float) (p : Place) (count : ℕ) (befor
       entry k (inr h) = g.past k h ∙ sym (get_or-paste_high before 0 outs count nan (omega arith) (omega (arith, many)) k (omega arith))
 
 -- the layout reaches as far as the last window
-last_window : {s : Setting} {p : Place} {w : Weave} {mem coefs : ℕ} → RunFits s p w.count mem coefs → WeaveFits s p w
+last_window : {s : Setting} {p : Place} {w : Weave} {mem : ℕ} → Playable s → RunFits s p w.count mem → WeaveFits s p w
     → p.position + w.reach ≡ (ahead (rate_with s 0) (w.count - 1) p).position + w.n
-last_window {s} {p} {w} f g =
-    let last = ap (λ (x : Place). x.position) (ahead_is (rate_with s 0) f.playable.terms.den_from (w.count - 1) p f.phase) in
+last_window {s} {p} {w} y f g =
+    let last = ap (λ (x : Place). x.position) (ahead_is (rate_with s 0) y.terms.den_from (w.count - 1) p f.phase) in
     omega (arith, last, g.reach, g.n)
 
 -- so it asks for no sample that the history does not have
-pub layout_fits : {s : Setting} {p : Place} {w : Weave} {mem coefs : ℕ} → RunFits s p w.count mem coefs → WeaveFits s p w
+pub layout_fits : {s : Setting} {p : Place} {w : Weave} {mem : ℕ} → Playable s → RunFits s p w.count mem → WeaveFits s p w
     → LayoutFits w.num w.stride w.reach 2048 (mem - p.position)
-layout_fits {s} {p} {w} f g =
+layout_fits {s} {p} {w} y f g =
     record {
-      num_to = omega (arith, g.num, f.playable.terms.num_to);
+      num_to = omega (arith, g.num, y.terms.num_to);
       rows = omega (arith, g.rows);
       columns = g.columns;
-      held = omega (arith, last_window f g, (f.each (w.count - 1) (omega (arith, g.some))).window, g.n);
+      held = omega (arith, last_window y f g, (f.each (w.count - 1) (omega (arith, g.some))).window, g.n);
     }
 
-module _ (s : Setting) (p : Place) (w : Weave) (from : ℕ) {q : Place} {mem coefs : ℕ} (f : RunFits s p w.count mem coefs) (g : WeaveFits s p w) (low : from < w.count) (e : q ≡ ahead (rate_with s 0) from p) where
+module _ (s : Setting) (p : Place) (w : Weave) (from : ℕ) {q : Place} {mem : ℕ} (y : Playable s) (f : RunFits s p w.count mem) (g : WeaveFits s p w) (low : from < w.count) (e : q ≡ ahead (rate_with s 0) from p) where
   -- output m of the class
   member : (m : ℕ) → ahead (rate_with s 0) (from + m * w.den) p ≡ record { position = q.position + m * w.num; phase = q.phase }
   member m =
       ap (λ (d : ℕ). ahead (rate_with s 0) (from + m * d) p) g.den
-      ∙ ahead_class (rate_with s 0) f.playable.terms.den_from from m p f.phase
+      ∙ ahead_class (rate_with s 0) y.terms.den_from from m p f.phase
       ∙ ap (λ (x : Place). record { position = x.position + m * s.num; phase = x.phase }) (sym e)
       ∙ ap (λ (d : ℕ). record { position = q.position + m * d; phase = q.phase }) (sym g.num)
 
@@ -145,17 +146,17 @@ module _ (s : Setting) (p : Place) (w : Weave) (from : ℕ) {q : Place} {mem coe
   within m h =
       let here = ap (λ (x : Place). x.position) (member m) in
       let far = ahead_later (rate_with s 0) (from + m * w.den) (w.count - 1) p (omega arith) in
-      omega (arith, here, far, last_window f g, after_first)
+      omega (arith, here, far, last_window y f g, after_first)
 
   pub class_fits : {size out : ℕ} → from < w.den → 2048 ≤ size → w.count ≤ out → ClassFits w (q.position - p.position) from size (mem - p.position) out
   class_fits h size out =
       record {
-        num_some = omega (arith, g.num, f.playable.terms.num_from);
-        den_to = omega (arith, g.den, f.playable.terms.den_to);
+        num_some = omega (arith, g.num, y.terms.num_from);
+        den_to = omega (arith, g.den, y.terms.den_to);
         from_low = h;
         rows = omega (arith, g.rows);
         columns = g.columns;
-        held = (layout_fits f g).held;
+        held = (layout_fits y f g).held;
         within = within;
         room = out;
       }

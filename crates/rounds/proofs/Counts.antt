@@ -1,13 +1,14 @@
 -- The numbers of a run of outputs: how many stand before the samples' end, and that they are small enough to reckon with.
---     count_full, count_most       a round makes as many as the room takes, or as many as stand before the end
+--     count_is                     a round makes as many as the room takes, or as many as stand before the end
 --     span_to, span_before         how many den-ths a run leads on, and its last output
 -- Assumes nothing.
 use mathlib.Core.Path.{◌≡◌, sym, ap, ◌∙◌}
-use Prim.Native.Nat.{ℕ, zero, suc, ◌+◌, ◌-◌, ◌*◌, ◌/◌, ◌^◌, ◌≤◌, ◌<◌}
-use native.Mathlib.Nat.{mul-add, mul-le-mul, mul-le-mul_left, mul-le-mul_right, lt_of_mul-lt-mul_left, div-add-mod', div-le_self, mod-lt}
+use mathlib.Core.Logic.{inl, inr}
+use Prim.Native.Nat.{ℕ, zero, suc, ◌+◌, ◌-◌, ◌*◌, ◌/◌, ◌^◌, ◌≤◌, ◌<◌, min}
+use native.Mathlib.Nat.{mul-add, mul-le-mul, mul-le-mul_left, mul-le-mul_right, lt_of_mul-lt-mul_left, div-add-mod', mod-lt}
 use native.Mathlib.Omega.{arith}
 use Rattle.timeline.specs.Numbers.{Rate, Place, ahead, made}
-use Rattle.timeline.proofs.Places.{reach, ahead_reach, ahead_phase, made_is}
+use Rattle.timeline.proofs.Places.{below_or_not, reach, ahead_reach, ahead_phase, made_is}
 use Rattle.rates.specs.Rated.{rate_with}
 use Rattle.rates.specs.declared.Setting.{Setting}
 use Rattle.rounds.specs.Rounds.{Playable}
@@ -27,9 +28,6 @@ gap r i p = r.den * (i - p.position) - p.phase
 
 abbrev pub most : Rate → ℕ → Place → ℕ
 most r i p = (gap r i p - 1) / r.num + 1
-
-pub most_to : (r : Rate) (i : ℕ) (p : Place) → most r i p ≤ r.den * (i - p.position) + 1
-most_to r i p = omega (arith, div-le_self (gap r i p - 1) r.num)
 
 -- a place before the end is some den-ths before it
 pub gap_some : (r : Rate) (i : ℕ) (p : Place) → p.phase < r.den → p.position < i → p.phase < r.den * (i - p.position)
@@ -59,28 +57,34 @@ module _ (r : Rate) (some : 0 < r.num) (d : 0 < r.den) (i : ℕ) (p : Place) (ph
       lt_of_mul-lt-mul_left r.den (omega (arith, ending, ahead_reach r k p, ahead_phase r d k p phase)) in
       omega arith
 
-  pub count_full : (room : ℕ) → room < most r i p → room ≡ made r i room p
+  count_full : (room : ℕ) → room < most r i p → room ≡ made r i room p
   count_full room h =
       sym (made_is r i room room p (omega arith) (λ j l. stand_before j (omega arith)) (λ l. omega arith))
 
-  pub count_most : (room : ℕ) → most r i p ≤ room → most r i p ≡ made r i room p
+  count_most : (room : ℕ) → most r i p ≤ room → most r i p ≡ made r i room p
   count_most room h = sym (made_is r i room (most r i p) p h stand_before (λ l. stand_past (most r i p) (omega arith)))
+
+  pub count_is : (room : ℕ) → min room (most r i p) ≡ made r i room p
+  count_is room = elim (below_or_not room (most r i p)) [
+    | inl h ↦ let e : min room (most r i p) ≡ room = omega arith in e ∙ count_full room h
+    | inr h ↦ let e : min room (most r i p) ≡ most r i p = omega arith in e ∙ count_most room h
+  ]
 
 -- den-ths of no more than 2^32 samples
 pub samples_to : {s : Setting} → Playable s → (x : ℕ) → x ≤ 2 ^ 32 → s.den * x ≤ 192000 * 2 ^ 32
 samples_to g x h = mul-le-mul g.terms.den_to h
 
 -- the last output stands at sample 2^32 at most, and the place after it one step further
-pub span_to : {s : Setting} {p : Place} (count : ℕ) → Numbered s p count → count * s.num ≤ 192000 * 2 ^ 32 + 384000
-span_to zero g = omega arith
-span_to {s} {p} (suc k) g =
+pub span_to : {s : Setting} {p : Place} (count : ℕ) → Playable s → Numbered s p count → count * s.num ≤ 192000 * 2 ^ 32 + 384000
+span_to zero y g = omega arith
+span_to {s} {p} (suc k) y g =
     let r = rate_with s 0 in
-    let t = g.playable.terms in
-    let far : s.den * (ahead r k p).position ≤ 192000 * 2 ^ 32 = samples_to g.playable (ahead r k p).position (g.each k (omega arith)) in
+    let t = y.terms in
+    let far : s.den * (ahead r k p).position ≤ 192000 * 2 ^ 32 = samples_to y (ahead r k p).position (g.each k (omega arith)) in
     omega (arith, far, ahead_reach r k p, ahead_phase r t.den_from k p g.phase, t.num_to, t.den_to)
 
 -- the last output itself
-pub span_before : {s : Setting} {p : Place} (count : ℕ) → Numbered s p count → (count - 1) * s.num ≤ 192000 * 2 ^ 32 + 384000
-span_before {s} count g =
+pub span_before : {s : Setting} {p : Place} (count : ℕ) → Playable s → Numbered s p count → (count - 1) * s.num ≤ 192000 * 2 ^ 32 + 384000
+span_before {s} count y g =
     let less : count - 1 ≤ count = omega arith in
-    omega (arith, mul-le-mul_right s.num less, span_to count g)
+    omega (arith, mul-le-mul_right s.num less, span_to count y g)

@@ -1,9 +1,9 @@
--- What a phase below den asks of the kernel: its numbers are small, and it reads within the coefficients that the setting counts. And an output from
+-- What a phase below den asks of the kernel: it reads within the coefficients that the setting counts. And an output from
 -- its phase and the history from some position on. Assumes nothing.
 use mathlib.Core.Path.{◌≡◌, refl, sym, ap, ◌∙◌}
 use mathlib.Core.List.{List}
-use Prim.Native.Nat.{ℕ, ◌+◌, ◌-◌, ◌*◌, ◌%◌, ◌≤◌, ◌<◌}
-use native.Mathlib.Nat.{mul-le-mul, mul-le-mul_left, mul-le-mul_right, le_of_lt, mod-lt, div-le_of_le-mul}
+use Prim.Native.Nat.{ℕ, ◌+◌, ◌-◌, ◌≤◌, ◌<◌}
+use native.Mathlib.Nat.{mul-le-mul_left, mul-le-mul_right, le_of_lt, div-le_of_le-mul}
 use native.Mathlib.Omega.{arith}
 use lib.ListN.{drop}
 use lib.Seq.{drop-drop}
@@ -20,13 +20,6 @@ use Rattle.rates.specs.declared.Kernel.TheVariants.{Unset, Direct, Interpolated}
 use Rattle.rates.specs.declared.Setting.{Setting}
 use Rattle.rounds.specs.Output.{phase_by, phase_of, weigh_of}
 use Rattle.rounds.specs.Rounds.{Playable}
-
-module _ {s : Setting} (g : Playable s) {phase : ℕ} (h : phase < s.den) where
-  pub product_to : phase * s.oversample ≤ 192000 * 16
-  product_to = let low : phase ≤ 192000 = omega arith in mul-le-mul low g.oversample_to
-
-  pub remainder_to : phase * s.oversample % s.den < 192000
-  remainder_to = omega (arith, mod-lt (phase * s.oversample) g.terms.den_from)
 
 -- by the kernel
 reaches_by : (k : Kernel) (n oversample den phase : ℕ) {size : ℕ} → (k ≡ Unset → ⊥) → 0 < n → phase < den

@@ -1,21 +1,20 @@
--- A run of outputs: before the first, over one, after the last; and the round that it leads to.
---     any_ahead, any_outputs, any_made     how much of the history is used does not matter to them
---     starts, goes_on, ends                the run
---     three_on, four_on                    over outputs that were made side by side
+-- A run of outputs: before the first and over one; and the round that it leads to.
+--     starts, goes_on                      the run
+--     four_values, side_by_side            over outputs that were made side by side
 --     numbered, run_fits                   what a run asks, from what a round asks
 --     here, onward, later                  where its outputs stand
 --     round_wrote                          the outputs are made, and the history moves down
 -- Assumes nothing.
 use mathlib.Core.Path.{◌≡◌, refl, sym, ap, subst, ◌∙◌}
-use mathlib.Core.Bool.{true, false}
-use mathlib.Core.List.{List, ◌∷◌}
+use mathlib.Core.List.{List}
 use Prim.Native.Nat.{ℕ, zero, suc, ◌+◌, ◌-◌, ◌≤◌, ◌<◌, min}
 use native.Mathlib.Nat.{zero-add, not-suc-le-zero}
 use native.Mathlib.Numerals.{add-one}
 use native.Mathlib.Omega.{arith}
-use lib.Dec.{ltb}
 use lib.ListN.{length, drop, set, get_or}
-use lib.Seq.{paste, paste-zero}
+use lib.Seq.{paste, paste-zero, paste-suc}
+use borrow.Rule.Slice.PartMut.{put_mid}
+use Rattle.std.proofs.lemmas.Slice.{put_mid-paste}
 use lib.Ieee.{Float, nan}
 use Rattle.history.proofs.Pasted as pasted
 use Rattle.history.proofs.Pasted.{Pasted}
@@ -26,23 +25,8 @@ use Rattle.timeline.proofs.Outputs.{length_outputs}
 use Rattle.rates.specs.Rated.{rate_with}
 use Rattle.rates.specs.declared.Setting.{Setting}
 use Rattle.rounds.specs.Output.{weigh_of}
-use Rattle.rounds.specs.Rounds.{RoundFits, Wrote, Filled}
+use Rattle.rounds.specs.Rounds.{Playable, RoundFits, Wrote, Filled}
 use Rattle.rounds.specs.Runs.{Numbered, Stands, RunFits, four_outputs, Ran}
-
-module _ (s : Setting) (alloc : ℕ) where
-  any_ahead : (k : ℕ) (p : Place) → ahead (rate_with s alloc) k p ≡ ahead (rate_with s 0) k p
-  any_ahead zero p = refl
-  any_ahead (suc k) p = any_ahead k (next (rate_with s 0) p)
-
-  any_outputs : {A : Type 0} (weigh : ℕ → List A → A) (mem : List A) (k : ℕ) (p : Place)
-      → outputs weigh (rate_with s alloc) mem k p ≡ outputs weigh (rate_with s 0) mem k p
-  any_outputs weigh mem zero p = refl
-  any_outputs weigh mem (suc k) p = ap (λ (l : List _). output weigh (rate_with s 0) mem p ∷ l) (any_outputs weigh mem k (next (rate_with s 0) p))
-
-  any_made : (i room : ℕ) (p : Place) → made (rate_with s alloc) i room p ≡ made (rate_with s 0) i room p
-  any_made i zero p = refl
-  any_made i (suc room) p =
-      ap (λ (k : ℕ). elim (ltb p.position i) [ true ↦ suc k | false ↦ 0 ]) (any_made i room (next (rate_with s 0) p))
 
 -- output j of k
 pub output_of : {A : Type 0} (weigh : ℕ → List A → A) (r : Rate) (mem : List A) (k j : ℕ) (p : Place) (z : A) → j < k
@@ -60,7 +44,6 @@ pub numbered : {s : Setting} {p : Place} {inn mem coefs : ℕ} (room : ℕ) {cou
     → Numbered s p count
 numbered {s} {p} {inn} room f e =
     record {
-      playable = f.playable;
       phase = f.phase;
       position = f.position;
       each = λ j h. omega (arith, made_below (rate_with s 0) inn room p j (omega arith), f.samples_to);
@@ -68,10 +51,9 @@ numbered {s} {p} {inn} room f e =
 
 -- and their windows
 pub run_fits : {s : Setting} {p : Place} {inn mem coefs : ℕ} (room : ℕ) {count : ℕ} → RoundFits s p inn mem coefs → count ≡ made (rate_with s 0) inn room p
-    → RunFits s p count mem coefs
+    → RunFits s p count mem
 run_fits {s} {p} {inn} room f e =
     record {
-      playable = f.playable;
       phase = f.phase;
       each = λ j h.
           let below = made_below (rate_with s 0) inn room p j (omega arith) in
@@ -80,24 +62,21 @@ run_fits {s} {p} {inn} room f e =
             position = omega (arith, below, f.samples_to);
             window = omega (arith, below, f.samples, f.playable.n_some);
           };
-      table = f.table;
     }
 
 -- where output i of a run stands
-pub here : {s : Setting} {p : Place} {count mem coefs : ℕ} (i : ℕ) {q : Place} → RunFits s p count mem coefs → q ≡ ahead (rate_with s 0) i p → i < count
+pub here : {s : Setting} {p : Place} {count mem : ℕ} (i : ℕ) {q : Place} → RunFits s p count mem → q ≡ ahead (rate_with s 0) i p → i < count
     → Stands s q mem
 here {s} {p} {count} {mem} i f e h = subst (λ (x : Place). Stands s x mem) (sym e) (f.each i h)
 
 -- the outputs that are left of a run are a run
-pub onward : {s : Setting} {p : Place} {count mem coefs : ℕ} (i k : ℕ) {q : Place} → RunFits s p count mem coefs → q ≡ ahead (rate_with s 0) i p → i + k ≤ count
-    → RunFits s q k mem coefs
-onward {s} {p} {count} {mem} {coefs} i k f e h =
-    subst (λ (x : Place). RunFits s x k mem coefs) (sym e)
+pub onward : {s : Setting} {p : Place} {count mem : ℕ} (i k : ℕ) {q : Place} → Playable s → RunFits s p count mem → q ≡ ahead (rate_with s 0) i p → i + k ≤ count
+    → RunFits s q k mem
+onward {s} {p} {count} {mem} i k g f e h =
+    subst (λ (x : Place). RunFits s x k mem) (sym e)
     (record {
-      playable = f.playable;
-      phase = ahead_phase r f.playable.terms.den_from i p f.phase;
+      phase = ahead_phase r g.terms.den_from i p f.phase;
       each = λ j l. subst (λ (x : Place). Stands s x mem) (ahead_add r i j p) (f.each (i + j) (omega arith));
-      table = f.table;
     })
   where
     r : Rate
@@ -106,6 +85,21 @@ onward {s} {p} {count} {mem} {coefs} i k f e h =
 -- the next output stands no earlier
 pub later : (r : Rate) (p : Place) {q : Place} → q ≡ next r p → p.position ≤ q.position
 later r p e = rw e (omega arith)
+
+-- the first k of four outputs are those of k places, each from the one before
+pub four_values : (s : Setting) (coefs mem : List Float) (k : ℕ) (a b c d : Place) {y : List Float} → k ≤ 4 → y ≡ four_outputs s coefs mem a b c d
+    → b ≡ next (rate_with s 0) a → c ≡ next (rate_with s 0) b → (3 < k → d ≡ next (rate_with s 0) c)
+    → (j : ℕ) → j < k → get_or y j nan ≡ output (weigh_of s coefs) (rate_with s 0) mem (ahead (rate_with s 0) j a)
+four_values s coefs mem k a b c d f e eb ec ed zero h = ap (λ (z : List Float). get_or z 0 nan) e
+four_values s coefs mem k a b c d f e eb ec ed (suc zero) h =
+    ap (λ (z : List Float). get_or z 1 nan) e ∙ ap (output (weigh_of s coefs) (rate_with s 0) mem) eb
+four_values s coefs mem k a b c d f e eb ec ed (suc (suc zero)) h =
+    let r = rate_with s 0 in
+    ap (λ (z : List Float). get_or z 2 nan) e ∙ ap (output (weigh_of s coefs) r mem) (ec ∙ ap (next r) eb)
+four_values s coefs mem k a b c d f e eb ec ed (suc (suc (suc zero))) h =
+    let r = rate_with s 0 in
+    ap (λ (z : List Float). get_or z 3 nan) e ∙ ap (output (weigh_of s coefs) r mem) (ed (omega arith) ∙ ap (next r) (ec ∙ ap (next r) eb))
+four_values s coefs mem k a b c d f e eb ec ed (suc (suc (suc (suc j)))) h = absurd (omega arith)
 
 module _ (s : Setting) (coefs mem : List Float) (p : Place) (count : ℕ) (before : List Float) where
   pub starts : Ran s coefs mem p count 0 p before before
@@ -125,43 +119,25 @@ module _ (s : Setting) (coefs mem : List Float) (p : Place) (count : ℕ) (befor
   pub recount : {k m : ℕ} {q : Place} {after : List Float} → k ≡ m → Ran s coefs mem p count k q before after → Ran s coefs mem p count m q before after
   recount {q = q} {after = after} e f = subst (λ (j : ℕ). Ran s coefs mem p count j q before after) e f
 
-  -- three outputs of four that were made side by side; the fourth may be anything
-  pub three_on : (i : ℕ) (d : Place) {a b c e : Place} {after y : List Float} → Ran s coefs mem p count i a before after → i + 3 ≤ count → count ≤ length before
-      → y ≡ four_outputs s coefs mem a b c d → b ≡ next (rate_with s 0) a → c ≡ next (rate_with s 0) b → e ≡ next (rate_with s 0) c
-      → Ran s coefs mem p count (i + 3) e before (set (set (set after i (get_or y 0 nan)) (i + 1) (get_or y 1 nan)) (i + 2) (get_or y 2 nan))
-  three_on i d f h l g eb ec ee =
-      let one = goes_on i f (omega arith) l (ap (λ (z : List Float). get_or z 0 nan) g) eb in
-      let two = goes_on (i + 1) one (omega arith) l (ap (λ (z : List Float). get_or z 1 nan) g) ec in
-      let second : i + 1 + 1 ≡ i + 2 = omega arith in
-      let three = goes_on (i + 2) (recount second two) (omega arith) l (ap (λ (z : List Float). get_or z 2 nan) g) ee in
-      let third : i + 2 + 1 ≡ i + 3 = omega arith in
-      recount third three
+  -- k outputs more
+  laid : (i k : ℕ) (part : List Float) {q q' : Place} {after : List Float} → Ran s coefs mem p count i q before after → i + k ≤ count → count ≤ length before → k ≤ length part
+      → ((j : ℕ) → j < k → get_or part j nan ≡ output (weigh_of s coefs) (rate_with s 0) mem (ahead (rate_with s 0) j q)) → q' ≡ ahead (rate_with s 0) k q
+      → Ran s coefs mem p count (i + k) q' before (paste after i part k)
+  laid i zero part {after = after} f h l m v e =
+      let none : i ≡ i + 0 = omega arith in
+      rw (e, ← paste-zero after i part) (recount none f)
+  laid i (suc k) part {q = q} {after = after} f h l m v e =
+      let so_far = laid i k part f (omega arith) l (omega arith) (λ j b. v j (omega arith)) refl in
+      let one = goes_on (i + k) so_far (omega arith) l (v k (omega arith)) (e ∙ ahead_last (rate_with s 0) k q) in
+      let on : i + k + 1 ≡ i + suc k = omega arith in
+      rw (← paste-suc after i part k nan (omega (arith, f.same)) (omega arith)) (recount on one)
 
-  -- all four
-  pub four_on : (i : ℕ) {a b c d e : Place} {after y : List Float} → Ran s coefs mem p count i a before after → i + 4 ≤ count → count ≤ length before
-      → y ≡ four_outputs s coefs mem a b c d → b ≡ next (rate_with s 0) a → c ≡ next (rate_with s 0) b → d ≡ next (rate_with s 0) c → e ≡ next (rate_with s 0) d
-      → Ran s coefs mem p count (i + 4) e before (set (set (set (set after i (get_or y 0 nan)) (i + 1) (get_or y 1 nan)) (i + 2) (get_or y 2 nan)) (i + 3) (get_or y 3 nan))
-  four_on i {d = d} f h l g eb ec ed ee =
-      let three = three_on i d f (omega arith) l g eb ec ed in
-      let four = goes_on (i + 3) three (omega arith) l (ap (λ (z : List Float). get_or z 3 nan) g) ee in
-      let fourth : i + 3 + 1 ≡ i + 4 = omega arith in
-      recount fourth four
-
-  pub ends : (i : ℕ) {q : Place} {after : List Float} → Ran s coefs mem p count count q before after → count ≡ made (rate_with s 0) i (length before) p
-      → (alloc : ℕ) → Filled (weigh_of s coefs) (rate_with s alloc) i p mem count q before after
-  ends i f e alloc =
-      record {
-        count = e ∙ sym (any_made s alloc i (length before) p);
-        place = f.place ∙ sym (any_ahead s alloc count p);
-        out = f.out ∙ ap (λ (l : List Float). paste before 0 l count) (sym (any_outputs s alloc (weigh_of s coefs) mem count p));
-      }
-
--- a run that is told by other names for its count and its end
-pub renamed : {s : Setting} {coefs mem : List Float} {p q : Place} {k count : ℕ} {before after : List Float} → k ≡ count
-    → Ran s coefs mem p k k (ahead (rate_with s 0) k p) before after → q ≡ ahead (rate_with s 0) count p → Ran s coefs mem p count count q before after
-renamed {s} {coefs} {mem} {p} {before = before} {after = after} e f h =
-    let g = subst (λ (j : ℕ). Ran s coefs mem p j j (ahead (rate_with s 0) j p) before after) e f in
-    record { within = g.within; place = h; same = g.same; out = g.out }
+  -- as they stand in the output once the part that was lent for them is back
+  pub side_by_side : (i k : ℕ) (part : List Float) {q q' : Place} {after : List Float} → Ran s coefs mem p count i q before after → i + k ≤ count → count ≤ length before → k ≡ length part
+      → ((j : ℕ) → j < k → get_or part j nan ≡ output (weigh_of s coefs) (rate_with s 0) mem (ahead (rate_with s 0) j q)) → q' ≡ ahead (rate_with s 0) k q
+      → Ran s coefs mem p count (i + k) q' before (put_mid i (i + k - i) after part)
+  side_by_side i k part {after = after} f h l m v e =
+      rw (put_mid-paste i (i + k - i) after part part k refl (omega arith) m) (laid i k part f h l (omega arith) v e)
 
 -- a round: its outputs are made, the smaller of position and samples in is consumed, and the history moves down by that
 pub round_wrote : {A : Type 0} {weigh : ℕ → List A → A} {r : Rate} {i : ℕ} {p : Place} {mem : List A} {written : ℕ} {q : Place} {before after : List A}

@@ -7,11 +7,9 @@ use Rattle.rates.specs.Rated.{rate_with}
 use Rattle.rates.specs.declared.Setting.{Setting}
 use Rattle.lanes.specs.declared.Weave.{Weave}
 use Rattle.rounds.specs.Output.{weigh_of}
-use Rattle.rounds.specs.Rounds.{Playable}
 
 -- the numbers of `count` outputs from place p on are small enough to reckon with
 pub record Numbered (s : Setting) (p : Place) (count : ℕ) : Type 0 where
-  pub playable : Playable s
   pub phase : p.phase < s.den
   pub position : p.position ≤ 2 ^ 32
   pub each : (j : ℕ) → j < count → (ahead (rate_with s 0) j p).position ≤ 2 ^ 32
@@ -22,12 +20,10 @@ pub record Stands (s : Setting) (p : Place) (mem : ℕ) : Type 0 where
   pub position : p.position ≤ 2 ^ 32
   pub window : p.position + s.filt_len ≤ mem
 
--- the windows of `count` outputs from place p on lie within the history, and the table is long enough
-pub record RunFits (s : Setting) (p : Place) (count mem coefs : ℕ) : Type 0 where
-  pub playable : Playable s
+-- the windows of `count` outputs from place p on lie within the history
+pub record RunFits (s : Setting) (p : Place) (count mem : ℕ) : Type 0 where
   pub phase : p.phase < s.den
   pub each : (j : ℕ) → j < count → Stands s (ahead (rate_with s 0) j p) mem
-  pub table : s.coefs ≤ coefs
 
 -- four outputs
 abbrev pub four_outputs : Setting → List Float → List Float → Place → Place → Place → Place → List Float

@@ -16,7 +16,6 @@ ghost use Rattle.rounds.specs.Rounds.{place_of, turn_of, Playable, RoundFits, Wr
 
 use kernel::Phase;
 use rates::{Kernel, Setting};
-use runs::make_outputs;
 
 // How many samples were read, and how many outputs were made. Two types, so that one is never taken
 // for the other.
@@ -26,7 +25,8 @@ pub struct Consumed(pub u64);
 #[derive(Clone, Copy)]
 pub struct Written(pub u64);
 
-// The entry of the history at which the next output's window starts, and the output's phase.
+// The entry of the history at which the next output's window starts, and the output's phase. It has no
+// den with it, so that the phase is below den stays a clause.
 #[derive(Clone, Copy)]
 pub struct Place {
     pub position: usize,
@@ -41,55 +41,75 @@ pub struct Turn {
     pub place: Place,
 }
 
-// The phase of an output from its number. Without a kernel there is no output: no caller has that.
-fn phase_at(setting: Setting, phase: usize) -> Phase
-    requires { Playable setting × (phase < setting.den) }
-    ensures { result ≡ phase_of setting phase }
-{
-    let kernel = setting.kernel;
-    match kernel {
-        Kernel::Unset => Phase::Direct(phase),
-        Kernel::Direct => Phase::Direct(phase),
-        Kernel::Interpolated => {
-            let den = setting.den as usize;
-            let product = phase * setting.oversample as usize;
-            let frac = casts::small((product % den) as u32) / casts::small(setting.den);
-            Phase::Interpolated(product / den, frac)
+// What makes outputs: a setting that can be played, the history, and at least as many coefficients as
+// the setting counts.
+#[derive(Clone, Copy)]
+struct Player<'a> {
+    setting: Setting,
+    mem: &'a [f32],
+    coefs: &'a [f32],
+    ghost playable: { Playable setting },
+    ghost table: { setting.coefs ≤ length coefs.now },
+}
+
+impl<'a> Player<'a> {
+    // The phase of an output from its number. Without a kernel there is no output: no caller has
+    // that.
+    fn phase_at(&self, phase: usize) -> Phase
+        requires { phase < self.now.setting.den }
+        ensures { result ≡ phase_of self.now.setting phase }
+    {
+        let setting = self.setting;
+        match setting.kernel {
+            Kernel::Unset | Kernel::Direct => Phase::Direct(phase),
+            Kernel::Interpolated => {
+                let den = setting.den as usize;
+                let product = phase * setting.oversample as usize;
+                let frac = casts::small((product % den) as u32) / casts::small(setting.den);
+                Phase::Interpolated(product / den, frac)
+            }
         }
     }
-}
 
-// The output at a place: its window is the part of the history from the position on.
-fn output_at(setting: Setting, place: Place, mem: &[f32], coefs: &[f32]) -> f32
-    requires { Playable setting × (place.phase < setting.den) × (place.position + setting.filt_len ≤ length mem.now) × (setting.coefs ≤ length coefs.now) }
-    ensures { result ≡ output (weigh_of setting coefs.now) (rate_with setting 0) mem.now (place_of place) }
-{
-    let phase = phase_at(setting, place.phase);
-    let at = place.position;
-    let n = setting.filt_len as usize;
-    kernel::step(phase, &mem[at..], coefs, n, setting.oversample as usize)
-}
-
-// The place of the next output: num/den further, with carry.
-fn advance(setting: Setting, place: Place) -> Place
-    requires { Playable setting × (place.phase < setting.den) × (place.position ≤ 2 ^ 33) }
-    ensures { place_of result ≡ next (rate_with setting 0) (place_of place) }
-{
-    let position = place.position + setting.int_advance as usize;
-    let phase = place.phase + setting.frac_advance as usize;
-    let den = setting.den as usize;
-    if phase >= den {
-        return Place {
-            position: position + 1,
-            phase: phase - den,
-        };
+    // The output at a place: its window is the part of the history from the position on.
+    fn output_at(&self, place: Place) -> f32
+        requires { (place.phase < self.now.setting.den) × (place.position + self.now.setting.filt_len ≤ length self.now.mem.now) }
+        ensures { result ≡ output (weigh_of self.now.setting self.now.coefs.now) (rate_with self.now.setting 0) self.now.mem.now (place_of place) }
+    {
+        let phase = self.phase_at(place.phase);
+        let at = place.position;
+        let n = self.setting.filt_len as usize;
+        kernel::step(
+            phase,
+            &self.mem[at..],
+            self.coefs,
+            n,
+            self.setting.oversample as usize,
+        )
     }
-    Place { position, phase }
+
+    // The place of the next output: num/den further, with carry.
+    fn advance(&self, place: Place) -> Place
+        requires { (place.phase < self.now.setting.den) × (place.position ≤ 2 ^ 33) }
+        ensures { place_of result ≡ next (rate_with self.now.setting 0) (place_of place) }
+    {
+        let position = place.position + self.setting.int_advance as usize;
+        let phase = place.phase + self.setting.frac_advance as usize;
+        let den = self.setting.den as usize;
+        if phase >= den {
+            return Place {
+                position: position + 1,
+                phase: phase - den,
+            };
+        }
+        Place { position, phase }
+    }
 }
 
 // One round over the in_len samples that stand at entry n - 1 of the history on: the outputs, then
 // the history moves down by what was consumed. How much of the history is used, alloc, does not
 // matter to a round.
+// Its parameters stay apart: docs/DECISIONS.md and docs/CLAIMS.md name it, with what it asks.
 pub fn process_native(
     setting: Setting,
     place: Place,
@@ -101,14 +121,15 @@ pub fn process_native(
     requires { RoundFits setting (place_of place) in_len (length mem.old) (length coefs.now) }
     ensures { (alloc : ℕ) → Wrote (play_round (weigh_of setting coefs.now) (rate_with setting alloc) in_len (length out.old) (place_of place) mem.old) (turn_of result) mem.new out.old out.new }
 {
-    let made = make_outputs(setting, place, &mem[..], coefs, in_len, out);
-    let end = made.place;
-    let consumed = if end.position < in_len {
-        end.position
-    } else {
-        in_len
+    let player = Player {
+        setting,
+        mem: &mem[..],
+        coefs,
     };
-    history::move_down(mem, consumed, 0, setting.filt_len as usize - 1);
+    let made = player.make_outputs(place, in_len, out);
+    let end = made.place;
+    let consumed = end.position.min(in_len);
+    history::move_within(mem, consumed, 0, setting.filt_len as usize - 1);
     let place = Place {
         position: end.position - consumed,
         phase: end.phase,

@@ -6,10 +6,8 @@ ghost use Rattle.std.specs.Prelude.{◌≡◌, ◌<◌};
 ghost use Rattle.window.specs.Window.{NotAboveOne};
 ghost use Rattle.sinc.specs.Sinc.{MirrorFits, place_at, windowed_sinc, sinc_at};
 
+use std::f64::consts::PI;
 use window::compute_func;
-
-// The f64 nearest pi.
-const PI: f64 = 3.141592653589793;
 
 // Where the window is asked for x.
 fn place_at(x: f32, n: u32) -> f32
@@ -30,6 +28,7 @@ fn windowed_sinc(cutoff: f32, x: f32, n: u32) -> f32
     casts::narrow(first_factor * second_factor)
 }
 
+// Cutoff, x and n stay apart, here and below: docs/DECISIONS.md names both with what they ask.
 // The coefficient at x for a filter of length n, whatever x and cutoff are. A NaN for x passes both
 // tests, and gives a NaN.
 pub fn sinc(cutoff: f32, x: f32, n: u32) -> f32

@@ -13,12 +13,10 @@ ghost use Rattle.sine.specs.Halving.{Halves};
 ghost use Rattle.sine.specs.Sine.{C, reduced, series, sine_at};
 
 use math::{abs, times_sign};
-
-// The f64 nearest pi.
-const PI: f64 = 3.141592653589793;
+use std::f64::consts::PI;
 
 // What the reduction leaves of an angle: r, from 0 to a quarter turn, and whether the sign of its
-// sine is flipped.
+// sine is flipped. The flip is no Option: r is there either way.
 #[derive(Clone, Copy)]
 struct Reduced {
     r: f64,

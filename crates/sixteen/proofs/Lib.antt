@@ -2,5 +2,4 @@
 mod Exact
 mod Steps
 mod Signs
-mod Signed
 pub mod From

@@ -9,22 +9,19 @@ ghost use Rattle.std.specs.Float.Ieee.{le};
 ghost use Rattle.math.specs.Numerals.{nought};
 ghost use Rattle.sixteen.specs.Sixteen.{sample_of, word_of, from_i16, to_i16, step_count};
 
-// The sample whose sixteen bits these are, in two's complement.
+// The sample whose sixteen bits these are, in two's complement. This and the next are the library's,
+// under the names that docs/CLAIMS.md has.
 pub fn sample_of(word: u16) -> i16
     ensures { result ≡ sample_of word }
 {
-    if word < 32768 {
-        word as i16
-    } else {
-        ((word as i32) - 65536) as i16
-    }
+    word.cast_signed()
 }
 
 // The sixteen bits of a sample.
 pub fn word_of(sample: i16) -> u16
     ensures { result ≡ word_of sample }
 {
-    ((((sample as i32) + 65536) as u32) % 65536) as u16
+    sample.cast_unsigned()
 }
 
 // How many steps an x that is not negative is from 0.
@@ -73,10 +70,7 @@ pub fn to_i16(x: f32) -> i16
     if x < 0.0 {
         return negated(steps);
     }
-    if steps > 32767 {
-        return 32767;
-    }
-    steps as i16
+    steps.min(32767) as i16
 }
 
 // A sample divided by 32768.

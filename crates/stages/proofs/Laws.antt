@@ -1,23 +1,22 @@
 -- What a block leaves, from what each of its steps ensures. Assumes nothing.
 use mathlib.Core.Path.{◌≡◌, sym, ◌∙◌, ap}
 use mathlib.Core.Bool.{Bool, ◌||◌}
-use mathlib.Core.List.{List, ◌++◌}
+use mathlib.Core.List.{List}
 use Prim.Native.Nat.{ℕ, ◌*◌, ◌/◌, ◌%◌, ◌≤◌}
 use native.Mathlib.Omega.{arith}
 use lib.Dec.{ltb}
 use lib.Ieee.{Float}
 use lib.ListN.{length, take, drop, replicate, length-take, length-drop, length-replicate, take-append-drop}
-use lib.Seq.{take_all, length-paste, take-take, take-append_seam}
+use lib.Seq.{take_all, length-paste, take-append_seam}
 use Rattle.math.specs.Numerals.{nought}
 use Rattle.history.specs.Zeroed.{zeroed}
 use Rattle.timeline.proofs.Parts.{take_front}
 use Rattle.quality.specs.House.{house}
 use Rattle.quality.proofs.House.{house_sane}
 use Rattle.state.specs.declared.ResamplerState.{ResamplerState}
-use Rattle.resampler.specs.Answers.{Told, told}
+use Rattle.resampler.specs.Answers.{Answer, Told, told}
 use Rattle.resampler.specs.Entries.{new_told, rate_told, rate_history, rate_coefficients}
 use Rattle.resampler.specs.Promises.{SetsRate, Processes}
-use Rattle.resampler.specs.declared.Answer.{Answer}
 use Rattle.pinned.proofs.Untouched.{process_keeps_rest}
 use Rattle.pcm.specs.Blocks.{samples_of, bytes_of, laid_over, Decodes, Encodes}
 use Rattle.pcm.proofs.Blocks.{length_samples, length_bytes}
@@ -108,31 +107,21 @@ module _ (samples samples' : List Float) (count : ℕ) (e : samples' ≡ zeroed 
       → count ≡ closing_zeros came n → Pulls g (take count samples') text p mem' out' text' → Pulls g (closing came n) text p mem' out' text'
   closes came n c q = rw (← c, ← zeros_are) q
 
--- ---- the bytes of a block
--- the first n bytes, cut anywhere
-pub cut_at : (held n : ℕ) (bytes : List ℕ) → held ≤ n → take held bytes ++ drop held (take n bytes) ≡ take n bytes
-cut_at held n bytes h = ap (λ (l : List ℕ). l ++ drop held (take n bytes)) (sym (take-take held n bytes h)) ∙ take-append-drop held (take n bytes)
-
 -- ---- one block
-pub feeds : (k r : Kept) (bytes bytes' : List ℕ) (n : ℕ) {mem coefs out mem' out' samples samples' : List Float} {text text' : List ℕ} {count : ℕ} {p : Pulled}
-    → k.held ≤ n → n ≤ length bytes → n / 2 ≤ length samples
-    → Decodes (take n bytes) samples samples' count
+pub feeds : (k r : Kept) (bytes bytes' : List ℕ) {mem coefs out mem' out' samples samples' : List Float} {text text' : List ℕ} {count : ℕ} {p : Pulled}
+    → length bytes / 2 ≤ length samples
+    → Decodes bytes samples samples' count
     → Pulls (bare_stage k.state mem coefs out) (take count samples') text p mem' out' text'
-    → (take r.held bytes' ≡ odd_of (take n bytes)) × (r.held ≡ n % 2)
-    → r.state ≡ p.state → r.came ≡ k.came || ltb 0 count → r.size ≡ p.size
-    → Feeds (stage_of k mem coefs out bytes) (drop k.held (take n bytes)) text r (stage_of r mem' coefs out' bytes') text'
-feeds k r bytes bytes' n {mem} {coefs} {out} {mem'} {out'} {samples} {samples'} {text} {text'} {count} {p} held within room d q o s c z =
-    let b = take n bytes in
-    let many : length b ≡ n = length-take n bytes ∙ omega arith in
-    let fits : length b / 2 ≤ length samples = omega arith in
-    let q' : Pulls (bare_stage k.state mem coefs out) (samples_of b) text p mem' out' text' = rw (decodes_all fits d) at q in
-    let came : r.came ≡ k.came || ltb 0 (length b / 2) = c ∙ ap (λ (m : ℕ). k.came || ltb 0 m) (decodes_count fits d) in
+    → (take r.held bytes' ≡ odd_of bytes) × (r.held ≡ length bytes % 2)
+    → r.state ≡ p.state → r.came ≡ k.came || ltb 0 count
+    → Feeds (stage_of k mem coefs out bytes) (drop k.held bytes) text p.size r.held (stage_of r mem' coefs out' bytes') text'
+feeds k r bytes bytes' {mem} {coefs} {out} {mem'} {out'} {samples} {samples'} {text} {text'} {count} {p} room d q o s c =
+    let whole = take-append-drop k.held bytes in
+    let q' : Pulls (bare_stage k.state mem coefs out) (samples_of bytes) text p mem' out' text' = rw (decodes_all room d) at q in
+    let came : r.came ≡ k.came || ltb 0 (length bytes / 2) = c ∙ ap (λ (m : ℕ). k.came || ltb 0 m) (decodes_count room d) in
     record {
-      stage = rw (cut_at k.held n bytes held, s ∙ q'.state, q'.history, q'.output, o.0, came);
-      held_is =
-          o.1
-          ∙ rw (cut_at k.held n bytes held)
-          (sym (length-drop (2 * (length b / 2)) b ∙ omega arith));
+      stage = rw (whole, s ∙ q'.state, q'.history, q'.output, o.0, came);
+      held_is = o.1 ∙ rw whole (sym (length-drop (2 * (length bytes / 2)) bytes ∙ omega arith));
       held_to = omega (arith, o.1);
-      handed_on = rw (cut_at k.held n bytes held, z) q'.handed_on;
+      handed_on = rw whole q'.handed_on;
     }

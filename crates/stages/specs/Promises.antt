@@ -38,9 +38,10 @@ pub record Pulls (g : Stage) (input : List Float) (text : List ℕ) (r : Pulled)
   pub output : out' ≡ (pulled g input).out
   pub handed_on : HandedOn (handed g input) text text' r.size
 
--- one block. `held_to` follows from the rest, and is what the loop over the reads asks
-pub record Feeds (g : Stage) (read text : List ℕ) (r : Kept) (g' : Stage) (text' : List ℕ) : Type 0 where
+-- one block, with the size that is handed on and how many bytes are held after it. `held_to` follows from the rest, and is what the loop over the reads
+-- asks
+pub record Feeds (g : Stage) (read text : List ℕ) (size held : ℕ) (g' : Stage) (text' : List ℕ) : Type 0 where
   pub stage : g' ≡ fed g read
-  pub held_is : r.held ≡ length (odd_of (block g read))
-  pub held_to : r.held ≤ 1
-  pub handed_on : HandedOn (handed g (samples_of (block g read))) text text' r.size
+  pub held_is : held ≡ length (odd_of (block g read))
+  pub held_to : held ≤ 1
+  pub handed_on : HandedOn (handed g (samples_of (block g read))) text text' size

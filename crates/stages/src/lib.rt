@@ -4,22 +4,20 @@
 // the small program does between a read and a write.
 #![tactic(auto)]
 
-ghost use Rattle.std.specs.Prelude.{◌≡◌, ◌*◌, ◌/◌, ◌≤◌, length, take, drop};
+ghost use Rattle.std.specs.Prelude.{◌≡◌, ◌*◌, ◌/◌, ◌≤◌, length, drop};
 ghost use Rattle.resampler.specs.Answers.{told};
 ghost use Rattle.edges.specs.Edges.{closing};
 ghost use Rattle.stages.specs.Promises.{bare_stage, stage_of, Opens, Pulls, Feeds};
 
-use resampler::{Answer, ResamplerState};
+use resampler::{Answer, ResamplerState, state_of};
 
-// What is kept between two reads. `held` is 1 where the first byte of a sample stands at the start of
-// the block of bytes, else 0. `came` tells whether any sample came. `size` is how many bytes were
-// handed on at last.
+// What is kept between two reads. `held` is how many bytes, 0 or 1, stand at the start of the block: the
+// first byte of a sample. `came` tells whether any sample came; no Option, since nothing goes with it.
 #[derive(Clone, Copy)]
 pub struct Kept {
     pub state: ResamplerState,
     pub held: usize,
     pub came: bool,
-    pub size: usize,
 }
 
 // What one call of the resampler left: the state for the next one, and how many bytes it handed on.
@@ -38,28 +36,16 @@ pub fn open(source: u32, target: u32, mem: &mut [f32], coefs: &mut [f32]) -> Res
     state_of(resampler::source_hz(fresh, source, mem, coefs))
 }
 
-// The state that an answer carries, whether it refuses or not.
-fn state_of(answer: Answer) -> ResamplerState
-    ensures { result ≡ (told answer).state }
-{
-    match answer {
-        Answer::Refused(_, state) => state,
-        Answer::Accepted(state, _, _) => state,
-    }
-}
-
 // How many outputs an answer tells.
 fn written_of(answer: Answer) -> u64
     ensures { result ≡ (told answer).written }
 {
-    match answer {
-        Answer::Refused(_, _) => 0,
-        Answer::Accepted(_, _, written) => written.0,
-    }
+    answer.map_or(0, |accepted| accepted.written.0)
 }
 
 // One call of the resampler, and its outputs as bytes at the start of `text`. An empty input is
 // refused, which changes nothing and hands nothing on.
+// The slices are no struct, here and below: one of borrowed slices would be built anew at each call.
 pub fn pull(
     state: ResamplerState,
     mem: &mut [f32],
@@ -80,34 +66,27 @@ pub fn pull(
     }
 }
 
-// A block of n bytes, the byte held at its front: its whole samples go through the resampler.
+// A block of bytes, the byte held at its front: its whole samples go through the resampler. Answers how
+// many bytes it handed on.
 pub fn feed(
-    kept: Kept,
+    kept: &mut Kept,
     mem: &mut [f32],
     coefs: &[f32],
     bytes: &mut [u8],
-    n: usize,
     samples: &mut [f32],
     out: &mut [f32],
     text: &mut [u8],
-) -> Kept
-    requires held_le_n { kept.held ≤ n }
-    requires n_in_bounds { n ≤ length bytes.old }
-    requires n_in_bounds_2 { n / 2 ≤ length samples.old }
+) -> usize
+    requires bytes_in_bounds { length bytes.old / 2 ≤ length samples.old }
     requires out_in_bounds { 2 * length out.old ≤ length text.old }
-    ensures { Feeds (stage_of kept mem.old coefs.now out.old bytes.old) (drop kept.held (take n bytes.old)) text.old result (stage_of result mem.new coefs.now out.new bytes.new) text.new }
+    ensures { Feeds (stage_of kept.old mem.old coefs.now out.old bytes.old) (drop kept.old.held bytes.old) text.old result kept.new.held (stage_of kept.new mem.new coefs.now out.new bytes.new) text.new }
 {
-    let state = kept.state;
-    let count = pcm::decode(&bytes[..n], samples);
-    let pulled = pull(state, mem, coefs, &samples[..count], out, text);
-    let held = edges::keep_odd(bytes, n);
-    let state = pulled.state;
-    Kept {
-        state,
-        held,
-        came: kept.came | (count > 0),
-        size: pulled.size,
-    }
+    let count = pcm::decode(bytes, samples);
+    let pulled = pull(kept.state, mem, coefs, &samples[..count], out, text);
+    kept.state = pulled.state;
+    kept.held = edges::keep_odd(bytes);
+    kept.came |= count > 0;
+    pulled.size
 }
 
 // The zeros that follow the samples go through the resampler.

@@ -4,23 +4,12 @@ use mathlib.Core.Bool.{Bool, true, false, ◌&&◌, beq, true≢false}
 use borrow.Author.Tests.{eq-eqb, eqb-true}
 use lib.Dec.{T, eqb}
 use lib.IntN.{ℤ, pos, negsuc}
-use lib.Ieee.{Float, nan, inf, fin, binary32, fits, ne, is_nan, of_bits, to_bits}
+use lib.Ieee.{Float, nan, inf, fin, binary32, fits, eq, ne, is_nan, of_bits, to_bits}
 use lib.Ieee.Bits.{of_bits-to_bits}
-use lib.Ieee.Compare.{differs_from_itself, nan_differs}
+use lib.Ieee.Compare.{differs_from_itself}
 use Rattle.state.specs.Belongs.{same_exponent, same_bits}
 use Rattle.sizes.proofs.Tests.{both}
 use Rattle.state.proofs.Tests.{by_test}
-
--- ---- the test `x != x`
-pub nan_if : (x : Float) → ne x x ≡ true → is_nan x ≡ true
-unfolding is_nan
-nan_if x e = ap is_nan (differs_from_itself x (subst T (sym e) tt))
-
-pub nan_unless : (x : Float) → ne x x ≡ false → is_nan x ≡ false
-unfolding is_nan
-nan_unless nan e = sym nan_differs ∙ e
-nan_unless (inf s) e = refl
-nan_unless (fin s m k) e = refl
 
 -- ---- the same bits: equal
 same_sign : (s t : Bool) → beq s t ≡ true → s ≡ t
@@ -63,20 +52,35 @@ same_self nan h = absurd (true≢false h)
 same_self (inf s) h = sign_itself s
 same_self (fin s m e) h = rw (sign_itself s, eq-eqb m m refl, exponent_itself e)
 
--- ---- a NaN is the same as nothing
-pub nan_first : (a b : Float) → is_nan a ≡ true → same_bits a b ≡ false
-unfolding same_bits is_nan
-nan_first nan b h = refl
-nan_first (inf s) b h = absurd (true≢false (sym h))
-nan_first (fin s m e) b h = absurd (true≢false (sym h))
+-- ---- equal as floats: neither is a NaN
+pub real_first : (a b : Float) → eq a b ≡ true → is_nan a ≡ false
+unfolding eq is_nan
+real_first nan b e = absurd (true≢false (sym e))
+real_first (inf s) b e = refl
+real_first (fin s m k) b e = refl
 
-pub nan_second : (a b : Float) → is_nan b ≡ true → same_bits a b ≡ false
-unfolding same_bits is_nan
-nan_second nan nan h = refl
-nan_second (inf s) nan h = refl
-nan_second (fin s m e) nan h = refl
-nan_second a (inf t) h = absurd (true≢false (sym h))
-nan_second a (fin t n d) h = absurd (true≢false (sym h))
+pub real_second : (a b : Float) → eq a b ≡ true → is_nan b ≡ false
+unfolding eq is_nan
+real_second nan b e = absurd (true≢false (sym e))
+real_second (inf s) nan e = absurd (true≢false (sym e))
+real_second (fin s m k) nan e = absurd (true≢false (sym e))
+real_second a (inf t) e = refl
+real_second a (fin t n d) e = refl
+
+-- ---- not equal as floats: not the same bits
+no_nan : (b : Float) → same_bits nan b ≡ false
+unfolding same_bits
+no_nan b = refl
+
+pub unequal : (a b : Float) → eq a b ≡ false → same_bits a b ≡ false
+unfolding ne
+unequal a b e =
+    by_test (same_bits a b)
+    (λ t.
+    let differs : T (ne a b) = rw e tt in
+    let a-nan : a ≡ nan = differs_from_itself a (subst (λ (x : Float). T (ne a x)) (sym (same_equal a b t)) differs) in
+    absurd (true≢false (sym t ∙ rw a-nan (no_nan b))))
+    (λ t. t)
 
 -- ---- two values of f32 that are no NaN: their bits decide
 pub by_bits : (a b : Float) → T (fits binary32 a) → T (fits binary32 b) → is_nan a ≡ false

@@ -18,7 +18,7 @@ use sizes::{BUFFER_SIZE, MAX_HISTORY};
 // lent. `source` is 0 before a source rate was set.
 #[derive(Clone, Copy)]
 pub struct ResamplerState {
-    // rates in Hz
+    // rates in Hz; no Option for the source, since document 01 and C have 0 for none
     pub target: u32,
     pub source: u32,
     // source over target in lowest terms
@@ -34,7 +34,7 @@ pub struct ResamplerState {
     pub frac_advance: u32,
     pub cutoff: f32,
     pub oversample: u32,
-    // 1 once a round ran
+    // 1 once a round ran, else 0; no bool, since C may give any number, and `belongs` judges it
     pub started: u32,
     pub kernel: Kernel,
     // position
@@ -52,21 +52,10 @@ impl ResamplerState {
     {
         Self {
             target,
-            source: 0,
-            num: 0,
             den: 1,
-            filt_len: 0,
-            mem_alloc_size: 0,
             buffer_size: BUFFER_SIZE,
-            int_advance: 0,
-            frac_advance: 0,
             cutoff: 1.0,
-            oversample: 0,
-            started: 0,
-            kernel: Kernel::Unset,
-            last_sample: 0,
-            samp_frac_num: 0,
-            magic_samples: 0,
+            ..ResamplerState::zero()
         }
     }
 
@@ -100,7 +89,6 @@ impl ResamplerState {
         requires { (self.filt_len ≤ 7680) × (self.oversample ≤ 16) × (self.den ≤ 192000) }
         ensures { result ≡ setting_in self }
     {
-        let kernel = self.kernel;
         Setting {
             num: self.num,
             den: self.den,
@@ -108,9 +96,9 @@ impl ResamplerState {
             frac_advance: self.frac_advance,
             filt_len: self.filt_len,
             oversample: self.oversample,
-            coefs: rates::coefficients(kernel, self.filt_len, self.oversample, self.den),
+            coefs: rates::coefficients(self.kernel, self.filt_len, self.oversample, self.den),
             cutoff: self.cutoff,
-            kernel,
+            kernel: self.kernel,
         }
     }
 
@@ -118,24 +106,12 @@ impl ResamplerState {
     pub fn moved_to(self, started: u32, position: u32, phase: u32, magic: u32) -> Self
         ensures { result ≡ moved_to self started position phase magic }
     {
-        let kernel = self.kernel;
         Self {
-            target: self.target,
-            source: self.source,
-            num: self.num,
-            den: self.den,
-            filt_len: self.filt_len,
-            mem_alloc_size: self.mem_alloc_size,
-            buffer_size: self.buffer_size,
-            int_advance: self.int_advance,
-            frac_advance: self.frac_advance,
-            cutoff: self.cutoff,
-            oversample: self.oversample,
             started,
-            kernel,
             last_sample: position,
             samp_frac_num: phase,
             magic_samples: magic,
+            ..self
         }
     }
 
@@ -151,6 +127,7 @@ impl ResamplerState {
         self.belongs_rated(row)
     }
 
+    // Field by field, here and below: a derived `==` would take 0.0 and -0.0 for one cutoff.
     fn belongs_fresh(self) -> bool
         ensures { result ≡ all_hold (fresh_tests self) }
     {
@@ -183,8 +160,6 @@ impl ResamplerState {
     fn has_setting(self, given: Setting) -> bool
         ensures { result ≡ all_hold (setting_tests self given) }
     {
-        let mine = self.kernel;
-        let theirs = given.kernel;
         (self.num == given.num)
             & (self.den == given.den)
             & (self.int_advance == given.int_advance)
@@ -192,7 +167,7 @@ impl ResamplerState {
             & same_bits(self.cutoff, given.cutoff)
             & (self.filt_len == given.filt_len)
             & (self.oversample == given.oversample)
-            & (kernel_number(mine) == kernel_number(theirs))
+            & (self.kernel == given.kernel)
     }
 
     // All that moves from call to call.
@@ -216,16 +191,10 @@ impl ResamplerState {
 fn same_bits(a: f32, b: f32) -> bool
     ensures { result ≡ same_bits a b }
 {
-    if a != a {
-        return false;
-    }
-    if b != b {
-        return false;
-    }
-    f32::to_bits(a) == f32::to_bits(b)
+    a == b && a.to_bits() == b.to_bits()
 }
 
-// The number of a kernel: two are compared by it, and in C it stands for the kernel.
+// The number of a kernel, which stands for it in C.
 pub fn kernel_number(kernel: Kernel) -> u32
     ensures { result ≡ kernel_number kernel }
 {
@@ -242,8 +211,5 @@ fn history_with(n: u32, magic: u32) -> u64
     ensures { result ≡ history_needed (n + 2 * magic) }
 {
     let length = n as u64 + 2 * magic as u64;
-    if length == 0 {
-        return BUFFER_SIZE as u64;
-    }
-    length - 1 + BUFFER_SIZE as u64
+    length.saturating_sub(1) + BUFFER_SIZE as u64
 }

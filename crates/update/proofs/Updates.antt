@@ -1,11 +1,12 @@
 -- An accepted change to another rate gives all that it asks for. Assumes nothing.
-use mathlib.Core.Path.{◌≡◌, refl, ap}
+use mathlib.Core.Path.{◌≡◌, ap}
 use mathlib.Core.Logic.{⊎_elim}
-use mathlib.Core.Bool.{Bool, true, false, cond}
+use mathlib.Core.Bool.{true, false, not}
 use Prim.Native.Nat.{ℕ, ◌+◌, ◌*◌, ◌≤◌, ◌<◌}
 use native.Mathlib.Omega.{arith}
 use lib.Dec.{eqb, ltb}
-use borrow.Author.Tests.{eqb-true, eqb-false, ltb-true, ltb-false}
+use borrow.Author.Tests.{eqb-true, eqb-false, ltb-true, ltb-false, not-true, not-false}
+use Rattle.std.proofs.lemmas.Bool.{cond_both}
 use Rattle.sizes.specs.Sizes.{InLimits, buffer_entries, history_needed, max_history}
 use Rattle.quality.specs.Quality.{Sane}
 use Rattle.quality.specs.declared.QualityMapping.{QualityMapping}
@@ -14,13 +15,12 @@ use Rattle.rates.specs.Limits.{Limits}
 use Rattle.rates.proofs.Limits.{limits}
 use Rattle.filter.specs.Settings.{SettingFits}
 use Rattle.filter.proofs.Settings.{setting_fits}
-use Rattle.reshape.specs.Reshaped.{ChangeFits, longer_magic, shorter_magic, reshaped_magic}
+use Rattle.reshape.specs.Reshaped.{ChangeFits, reshaped_magic}
 use Rattle.reshape.specs.declared.Change.{Change}
 use Rattle.state.specs.State.{fresh_state}
 use Rattle.state.specs.declared.ResamplerState.{ResamplerState}
 use Rattle.state.proofs.Belonging.{Fresh, Rated, belongs_is, rated_limits}
-use Rattle.judge.specs.Verdicts.{history_after, rate_verdict}
-use Rattle.judge.specs.declared.Verdict.TheVariants.{Accept}
+use Rattle.judge.specs.Verdicts.{accept, history_after, rate_verdict}
 use Rattle.judge.proofs.Judged.{rate_accepts}
 use Rattle.update.specs.Updated.{change_of}
 
@@ -64,30 +64,31 @@ rated_stands row sane s r =
       filled = λ z. (omega (arith, l.n_from, sane.base_from), r.magic);
     }
 
--- a number picked by a test
-picked : (P : ℕ → Type 0) (t : Bool) {a b : ℕ} → (t ≡ true → P a) → (t ≡ false → P b) → P (cond t a b)
-picked P true f g = f refl
-picked P false f g = g refl
+-- what the flag of a change says of the number that the state has
+ran : (n : ℕ) → not (eqb n 0) ≡ true → n ≡ 0 → ⊥
+ran n e = eqb-false n 0 (not-true (eqb n 0) e)
+
+not_ran : (n : ℕ) → not (eqb n 0) ≡ false → n ≡ 0
+not_ran n e = eqb-true n 0 (not-false (eqb n 0) e)
 
 -- the new magic samples, each counted twice, fit beside the new filter
 pub magic_fits : (c : Change) → history_needed c.filt_len ≤ c.mem_alloc_size → c.old_alloc_size ≤ c.mem_alloc_size
-    → 0 < c.filt_len → (c.started ≡ 0 → c.magic_samples ≡ 0)
-    → ((c.started ≡ 0 → ⊥)
+    → 0 < c.filt_len → (c.started ≡ false → c.magic_samples ≡ 0)
+    → (c.started ≡ true
     → (0 < c.old_length) × (history_needed (c.old_length + 2 * c.magic_samples) ≤ c.old_alloc_size))
     → history_needed (c.filt_len + 2 * reshaped_magic c) ≤ c.mem_alloc_size
-unfolding reshaped_magic longer_magic shorter_magic
 magic_fits c h k some none filled =
     let old = c.old_length in
     let n = c.filt_len in
     let m = c.magic_samples in
     let Fits : ℕ → Type 0 = λ x. history_needed (n + 2 * x) ≤ c.mem_alloc_size in
-    picked Fits (eqb c.started 0)
-    (λ e. let z = none (eqb-true c.started 0 e) in omega arith)
+    cond_both c.started _ _ Fits
     (λ e.
-    let p = filled (eqb-false c.started 0 e) in
-    picked Fits (ltb old n)
-    (λ u. picked Fits (ltb (old + 2 * m) n) (λ v. omega arith) (λ v. omega (arith, ltb-false (old + 2 * m) n v)))
-    (λ u. picked Fits (ltb n old) (λ v. omega (arith, ltb-true n old v)) (λ v. omega (arith, ltb-false old n u, ltb-false n old v))))
+    let p = filled e in
+    cond_both (ltb old n) _ _ Fits
+    (λ u. cond_both (ltb (old + 2 * m) n) _ _ Fits (λ v. omega arith) (λ v. omega (arith, ltb-false (old + 2 * m) n v)))
+    (λ u. cond_both (ltb n old) _ _ Fits (λ v. omega (arith, ltb-true n old v)) (λ v. omega (arith, ltb-false old n u, ltb-false n old v))))
+    (λ e. let z = none e in omega arith)
 
 -- what a change of rate asks for
 pub record RateReady (row : QualityMapping) (s : ResamplerState) (source mem coefs : ℕ) : Type 0 where
@@ -100,7 +101,7 @@ pub record RateReady (row : QualityMapping) (s : ResamplerState) (source mem coe
   pub magic_to : history_needed ((setting_of row source s.target).filt_len + 2 * reshaped_magic (change_of s (setting_of row source s.target)))
       ≤ history_after s (setting_of row source s.target)
 
-pub rate_ready : (row : QualityMapping) → Sane row → (s : ResamplerState) (source mem coefs : ℕ) → rate_verdict row s source mem coefs ≡ Accept
+pub rate_ready : (row : QualityMapping) → Sane row → (s : ResamplerState) (source mem coefs : ℕ) → rate_verdict row s source mem coefs ≡ accept
     → (s.source ≡ source → ⊥) → RateReady row s source mem coefs
 rate_ready row sane s source mem coefs e other =
     let v = rate_accepts row s source mem coefs e in
@@ -117,9 +118,9 @@ rate_ready row sane s source mem coefs e other =
         lent = v.history other;
         holds = omega arith;
         some = some;
-        before = λ z. let p = st.filled z in omega arith;
+        before = λ e. let p = st.filled (ran s.started e) in omega arith;
       };
       table = setting_fits row sane source s.target v.source_in st.target coefs (v.coefficients other);
       alloc_to = omega (arith, st.alloc_to, l.history_to);
-      magic_to = magic_fits (change_of s setting) (omega arith) (omega arith) some st.unstarted st.filled;
+      magic_to = magic_fits (change_of s setting) (omega arith) (omega arith) some (λ e. st.unstarted (not_ran s.started e)) (λ e. st.filled (ran s.started e));
     }

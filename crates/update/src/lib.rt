@@ -9,8 +9,7 @@ ghost use Rattle.std.specs.Prelude.{◌≡◌, ◌≤◌, ◌<◌, length};
 ghost use Rattle.quality.specs.Quality.{Sane};
 ghost use Rattle.rates.specs.Setting.{setting_of};
 ghost use Rattle.sizes.specs.Sizes.{history_needed, max_history};
-ghost use Rattle.judge.specs.Verdicts.{rate_verdict};
-ghost use Rattle.judge.specs.declared.Verdict.TheVariants.{Accept};
+ghost use Rattle.judge.specs.Verdicts.{accept, rate_verdict};
 ghost use Rattle.update.specs.Updated.{phase_after, change_of, with_setting, updated_state, updated_history, updated_coefficients};
 
 use quality::QualityMapping;
@@ -27,10 +26,7 @@ fn phase_after(phase: u32, den: u32, old_den: u32) -> u32
 {
     let scaled = _muldiv(phase as u64, den as u64, old_den as u64);
     let last = den - 1;
-    if scaled < last as u64 {
-        return scaled as u32;
-    }
-    last
+    scaled.min(last as u64) as u32
 }
 
 // The change as the history sees it: alloc grows where the new filter needs it, and never shrinks.
@@ -40,7 +36,7 @@ fn change(state: ResamplerState, setting: Setting) -> Change
 {
     let alloc = judge::history_after(state.mem_alloc_size, setting.filt_len);
     Change {
-        started: state.started as usize,
+        started: state.started != 0,
         old_alloc_size: state.mem_alloc_size as usize,
         mem_alloc_size: alloc as usize,
         old_length: state.filt_len as usize,
@@ -49,7 +45,8 @@ fn change(state: ResamplerState, setting: Setting) -> Change
     }
 }
 
-// The state with a setting's numbers. The buffer's size and whether a round ever ran stay.
+// The state with a setting's numbers, which it holds field by field, as C does. The buffer's size and
+// whether a round ever ran stay.
 fn with_setting(
     state: ResamplerState,
     source: u32,
@@ -60,28 +57,26 @@ fn with_setting(
     requires { (0 < state.den) × (0 < setting.den) }
     ensures { result ≡ with_setting state source setting alloc magic }
 {
-    let kernel = setting.kernel;
     ResamplerState {
-        target: state.target,
         source,
         num: setting.num,
         den: setting.den,
         filt_len: setting.filt_len,
         mem_alloc_size: alloc,
-        buffer_size: state.buffer_size,
         int_advance: setting.int_advance,
         frac_advance: setting.frac_advance,
         cutoff: setting.cutoff,
         oversample: setting.oversample,
-        started: state.started,
-        kernel,
+        kernel: setting.kernel,
         last_sample: setting.filt_len / 2,
         samp_frac_num: phase_after(state.samp_frac_num, setting.den, state.den),
         magic_samples: magic,
+        ..state
     }
 }
 
-// Sets the source rate. What lies past alloc and past the table in the lent slices stays.
+// Sets the source rate. What lies past alloc and past the table in the lent slices stays. That the row
+// is sane stays a clause, as in `judge`, and the slices stay apart, as in `resampler`.
 pub fn update_filter(
     row: QualityMapping,
     state: ResamplerState,
@@ -89,7 +84,7 @@ pub fn update_filter(
     mem: &mut [f32],
     coefs: &mut [f32],
 ) -> ResamplerState
-    requires { Sane row × (rate_verdict row state source (length mem.old) (length coefs.old) ≡ Accept) × (state.source ≡ source → ⊥) }
+    requires { Sane row × (rate_verdict row state source (length mem.old) (length coefs.old) ≡ accept) × (state.source ≡ source → ⊥) }
     ensures value { result ≡ updated_state state source (setting_of row source state.target) }
     ensures mem_after { mem.new ≡ updated_history state (setting_of row source state.target) mem.old }
     ensures coefs_after { coefs.new ≡ updated_coefficients (setting_of row source state.target) coefs.old }

@@ -19,8 +19,8 @@ fn double_of(pattern: u64) -> f64 {
 pub fn sample_is_right(line: &[u8]) -> bool {
     let pattern = text::small_number(line, 0, 8, 16);
     let ours = sixteen::word_of(sixteen::to_i16(bits::float_of(pattern)));
-    (text::number(line, 0, 8, 16) == pattern as u64)
-        & (text::number(line, 9, 13, 16) == ours as u64)
+    (text::number(line, 0, 8, 16) == u64::from(pattern))
+        & (text::number(line, 9, 13, 16) == u64::from(ours))
 }
 
 // 16 and 16 hex digits: the bits of an angle and of libm's sine. The bound is 2^-40.

@@ -4,48 +4,60 @@
 // Calls as long as the longest are judged here and not made: no judge looks at a sample.
 use crate::rated::process_verdict;
 use crate::text;
-use judge::Verdict;
+use judge::Refusal;
 use quality::QualityMapping;
-use recording::Total;
-use resampler::Consumed;
+use recording::TotalError;
+use resampler::{Consumed, Written};
 use state::ResamplerState;
 
-// Whether a verdict is what a line answers: the first letter of a word, and a number.
-fn is_verdict(verdict: Verdict, letter: u8, number: u64) -> bool {
-    match verdict {
-        Verdict::Refuse(refusal) => (letter == b'r') & (refusal.number() as u64 == number),
-        Verdict::Accept => (letter == b'a') & (number == 0),
-    }
+// What a line answers: the first letter of a word, and a number.
+#[derive(Clone, Copy)]
+struct Answered {
+    letter: u8,
+    number: u64,
 }
 
-// The same of a total.
-fn is_total(total: Total, letter: u8, number: u64) -> bool {
-    match total {
-        Total::Refused(refusal) => (letter == b'r') & (refusal.number() as u64 == number),
-        Total::TooMany => (letter == b'm') & (number == 0),
-        Total::Closed(written) => (letter == b't') & (written.0 == number),
+impl Answered {
+    // Whether the line refuses, with this refusal's number.
+    fn is_refusal(self, refusal: Refusal) -> bool {
+        (self.letter == b'r') & (self.number == u64::from(refusal.number()))
+    }
+
+    fn is_verdict(self, verdict: Result<(), Refusal>) -> bool {
+        match verdict {
+            Ok(()) => (self.letter == b'a') & (self.number == 0),
+            Err(refusal) => self.is_refusal(refusal),
+        }
+    }
+
+    fn is_total(self, total: Result<Written, TotalError>) -> bool {
+        match total {
+            Ok(written) => (self.letter == b't') & (self.number == written.0),
+            Err(TotalError::Refused(refusal)) => self.is_refusal(refusal),
+            Err(TotalError::TooMany) => (self.letter == b'm') & (self.number == 0),
+        }
     }
 }
 
 // Whether a rate is set on a new state, with a history and coefficients of these lengths.
-fn rate_verdict(source: u32, target: u32, mem_len: usize, coefs_len: usize) -> Verdict {
+fn rate_verdict(source: u32, target: u32, mem_len: usize, coefs_len: usize) -> Result<(), Refusal> {
     let state = ResamplerState::fresh(target);
     judge::judge_rate(QualityMapping::house(), state, source, mem_len, coefs_len)
 }
 
-// Whether a question has this answer. A question that there is not has none.
+// Whether a question has this answer. A question that there is not has none. By its letter, as the line has
+// it: closures would be picked by the same letters.
 fn is_answer(
     question: u8,
     source: u32,
     target: u32,
     first: u64,
     second: u64,
-    letter: u8,
-    number: u64,
+    answered: Answered,
 ) -> bool {
     if question == b'c' {
         let total = recording::closed_total(Consumed(first), source, target);
-        return is_total(total, letter, number);
+        return answered.is_total(total);
     }
     let verdict = match question {
         b'n' => judge::judge_new(target),
@@ -53,7 +65,7 @@ fn is_answer(
         b'p' => process_verdict(source, target, first as usize, second as usize),
         _ => return false,
     };
-    is_verdict(verdict, letter, number)
+    answered.is_verdict(verdict)
 }
 
 // A question, source and target rate, two lengths, and the answer as a word and a number. Told by its
@@ -70,7 +82,9 @@ pub fn is_right(line: &[u8]) -> bool {
         text::small_number(line, 15, 21, 10),
         text::number(line, 22, 35, 10),
         text::number(line, 36, 44, 10),
-        text::byte_at(line, 45),
-        text::number(line, 54, 66, 10),
+        Answered {
+            letter: text::byte_at(line, 45),
+            number: text::number(line, 54, 66, 10),
+        },
     )
 }

@@ -10,67 +10,39 @@ mod limits;
 mod rated;
 mod text;
 
-ghost use Rattle.std.specs.Prelude.{◌≡◌, ◌<◌, ◌≤◌, length};
+ghost use Rattle.std.specs.Prelude.{◌<◌};
 
 use std::fs;
-use std::io::Read;
 use std::rt::Files;
 
-// What the lines of a file are about.
-#[derive(Clone, Copy)]
-enum Subject {
-    Samples,
-    Sine,
-    Coefficients,
-    Limits,
-}
-
-fn is_right(subject: Subject, line: &[u8]) -> bool {
-    match subject {
-        Subject::Samples => conversions::sample_is_right(line),
-        Subject::Sine => conversions::sine_is_right(line),
-        Subject::Coefficients => conversions::coefficient_is_right(line),
-        Subject::Limits => limits::is_right(line),
-    }
-}
-
-// One more where a line is wrong, and the line is written.
-fn tally(rt: &impl Print, wrong: u64, right: bool, line: &[u8]) -> u64 {
-    if right {
-        return wrong;
-    }
-    let _ = rt.write_all(b"wrong: ");
-    let _ = rt.write_all(line);
-    std::num::wrapping_add_u64(wrong, 1)
-}
-
-// How many of the whole lines are wrong. A line that does not end where it should is.
-fn count_wrong(rt: &impl Print, subject: Subject, width: usize, text: &[u8]) -> u64
-    requires { 0 < width }
-{
-    let mut wrong: u64 = 0;
-    let mut at = 0;
-    while width <= text.len() - at {
-        let end = at + width;
-        let line = &text[at..end];
-        let right = is_right(subject, line) & (text[end - 1] == b'\n');
-        wrong = tally(rt, wrong, right, line);
-        at = end;
+// Whether a line is wrong: it was found so, or does not end where it should. One that is gets written.
+fn is_wrong(rt: &impl Print, line: &[u8], right: bool) -> bool {
+    let wrong = !right | !line.ends_with(b"\n");
+    if wrong {
+        let _ = rt.write_all(b"wrong: ");
+        let _ = rt.write_all(line);
     }
     wrong
 }
 
-// Zeros, more than any of the files has bytes. Its length is told once here, and not worked out anew
-// wherever it is lent.
-fn room() -> [u8; 98304]
-    ensures { 98304 ≡ length result }
+// How many of the whole lines are wrong.
+fn count_wrong<F: Fn(&[u8]) -> bool>(
+    rt: &impl Print,
+    text: &[u8],
+    width: usize,
+    is_right: F,
+) -> usize
+    requires width { 0 < width }
+    requires right { F.IsAlwaysCallable is_right }
 {
-    [0; 98304]
+    text.chunks_exact(width)
+        .filter(|line| is_wrong(rt, line, is_right(line)))
+        .count()
 }
 
 // How many were tried of this width in n, and how many of them are wrong. A part of a line at a file's
 // end is told too.
-fn print_totals(rt: &impl Print, name: &str, n: usize, width: usize, wrong: u64)
+fn print_totals(rt: &impl Print, name: &str, n: usize, width: usize, wrong: usize)
     requires { 0 < width }
 {
     let tried = n / width;
@@ -82,68 +54,49 @@ fn print_totals(rt: &impl Print, name: &str, n: usize, width: usize, wrong: u64)
     let _ = println!(rt; "{name}: {tried} tried{part}, {wrong} wrong");
 }
 
-// Reads until the text is full, the file ends or a read fails, and answers how many bytes it read.
-fn read_full<R: Read>(file: &mut R, text: &mut [u8]) -> usize
-    ensures { result ≤ length text.new }
-{
-    let mut done = 0;
-    while done < text.len() {
-        let Ok(count) = file.read(&mut text[done..]) else {
-            break;
-        };
-        if count == 0 {
-            break;
-        }
-        done += count;
-    }
-    done
+// The bytes of a file, read into this room. One that is missing has none, and one whose reading fails
+// ends there.
+fn read_file<'a>(rt: &impl Files, name: &str, room: &'a mut [u8]) -> &'a [u8] {
+    let Ok(mut file) = fs::open(rt, name) else {
+        return &[];
+    };
+    let n = conforming::read_full(&mut file, room).unwrap_or_else(|cut| cut.count);
+    &room[..n]
 }
 
-// The bytes of a file, put at the start of the text; how many they are. One that is missing has none.
-fn read_file(rt: &impl Files, name: &str, text: &mut [u8]) -> usize
-    ensures { result ≤ length text.new }
+// Tries a file whose lines all have this width. One that is missing has no lines. The room is for more
+// bytes than any of the files has.
+fn try_file<F: Fn(&[u8]) -> bool>(rt: &(impl Files + Print), name: &str, width: usize, is_right: F)
+    requires width { 0 < width }
+    requires right { F.IsAlwaysCallable is_right }
 {
-    match fs::open(rt, name) {
-        Ok(mut file) => read_full(&mut file, text),
-        Err(_) => 0,
-    }
+    let mut room = [0; 98304];
+    let text = read_file(rt, name, &mut room);
+    let wrong = count_wrong(rt, text, width, is_right);
+    print_totals(rt, name, text.len(), width, wrong);
 }
 
-// Tries a file whose lines all have this width. One that is missing has no lines.
-fn try_file(rt: &(impl Files + Print), name: &str, subject: Subject, width: usize)
-    requires { 0 < width }
-{
-    let mut text = room();
-    let n = read_file(rt, name, &mut text);
-    let wrong = count_wrong(rt, subject, width, &text[..n]);
-    print_totals(rt, name, n, width, wrong);
-}
-
-// 1 if the sample of this word does not come back as it was, else 0.
-fn changes(word: u32) -> u64
-    requires { word < 65536 }
-{
-    let sample = sixteen::sample_of(word as u16);
+// Whether the sample of this word does not come back as it was.
+fn changes(word: u16) -> bool {
+    let sample = sixteen::sample_of(word);
     let back = sixteen::to_i16(sixteen::from_i16(sample));
-    if sixteen::word_of(back) as u32 == word {
-        return 0;
-    }
-    1
+    sixteen::word_of(back) != word
 }
 
 // How many samples do not come back from `from_i16` and `to_i16` as they were.
-fn count_changed() -> u64 {
-    let mut changed: u64 = 0;
-    for word in 0..65536 {
-        changed = std::num::wrapping_add_u64(changed, changes(word));
-    }
-    changed
+fn count_changed() -> usize {
+    (0..=u16::MAX).filter(|word| changes(*word)).count()
 }
 
 fn main(rt: HostRuntime) {
-    try_file(&rt, "to_i16.txt", Subject::Samples, 14);
-    try_file(&rt, "sine.txt", Subject::Sine, 34);
-    try_file(&rt, "coefficients.txt", Subject::Coefficients, 29);
-    try_file(&rt, "limits.txt", Subject::Limits, 67);
+    try_file(&rt, "to_i16.txt", 14, conversions::sample_is_right);
+    try_file(&rt, "sine.txt", 34, conversions::sine_is_right);
+    try_file(
+        &rt,
+        "coefficients.txt",
+        29,
+        conversions::coefficient_is_right,
+    );
+    try_file(&rt, "limits.txt", 67, limits::is_right);
     print_totals(&rt, "from_i16 and back", 65536, 1, count_changed());
 }

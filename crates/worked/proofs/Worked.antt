@@ -16,7 +16,6 @@ use Rattle.quality.specs.House.{house}
 use Rattle.quality.proofs.House.{house_sane}
 use Rattle.rates.specs.Setting.{setting_at, setting_of, length_of, oversample_of, kernel_of, coefficients_of}
 use Rattle.rates.specs.declared.Kernel.{Kernel}
-use Rattle.reshape.specs.Reshaped.{reshaped_magic}
 use Rattle.state.specs.State.{fresh_state, moved_to}
 use Rattle.state.proofs.Belonging.{fresh_state_belongs}
 use Rattle.judge.specs.Refusals.{max_call}
@@ -83,7 +82,7 @@ outside_gets_1 rate e = record { new = rw e; set = λ target mem coefs h. rw (fr
 -- ---- the worked numbers
 
 pub worked : Worked
-unfolding house setting_of setting_at lowest gcd_of length_of oversample_of kernel_of coefficients_of in_limits with_setting fresh_state reshaped_magic
+unfolding house setting_of setting_at lowest gcd_of length_of oversample_of kernel_of coefficients_of in_limits with_setting fresh_state
 worked =
     record {
       A = line refl refl refl;

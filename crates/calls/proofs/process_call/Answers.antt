@@ -55,14 +55,14 @@ process_chunks-turn-requires c =
     (position_after_lem weigh r a.magic (length a.out.now) (place_of a.place) a.mem.now w (fit f).den f.phase (slow f) f.position)
     c.process_magic-first.auto.mem
 
-pub overflow_add-written : goal.overflow_add-written
-overflow_add-written c =
+pub overflow_add-turn : goal.overflow_add-turn
+overflow_add-turn c =
     let a = c.args in
     let out = c.process_magic-first.new.out in
     let done = c.process_magic-first.result.turn.written.0 in
     let fits = rounds_written_fit (weigh_of a.setting a.coefs.now) (rate_with a.setting a.alloc) a.input.now (length (take (length out - done) (drop done out)))
     (place_of c.process_magic-first.result.turn.place) c.process_magic-first.new.mem c.process_chunks-turn.ensures in
-    omega (arith, fits, length-take (length out - done) (drop done out), c.process_magic-first.auto.out, within (goal.at-overflow_add-written c).After-process_magic-first, c.well_formed)
+    omega (arith, fits, length-take (length out - done) (drop done out), c.process_magic-first.auto.out, within (goal.at-overflow_add-turn c).After-process_magic-first, c.well_formed)
 
 pub returns : goal.returns
 returns c =

@@ -1,33 +1,13 @@
--- `marshdeck_process` meets its contract: no state has the numbers, or the resampler was called with the one that has. Assumes nothing.
-use mathlib.Core.Path.{◌≡◌, sym, ◌∙◌}
-use mathlib.Core.Bool.{true}
-use Rattle.flat.specs.Flat.{is_state}
+-- `marshdeck_process` counts no more than a call takes. Assumes nothing.
+use mathlib.Core.Path.{◌≡◌}
+use Rattle.std.proofs.Common.{rules}
+use Rattle.quality.specs.House.{house}
+use Rattle.resampler.specs.Answers.{told}
+use Rattle.resampler.specs.Entries.{process_told}
 use Rattle.capi.proofs.Counts.{process_fits}
-use Rattle.capi.proofs.Calls.{no_process, processes}
 use Rattle.capi.proofs.marshdeck_process.Goals as goal
-use Rattle.capi.proofs.marshdeck_process.Goals.{Else-not-is_state}
 
--- a state has the numbers
-yes : (c : Else-not-is_state) → is_state c.args.state ≡ true
-yes c = sym c.is_state.ensures ∙ c.if-not-is_state.false
-
-pub returns-then-not-is_state : goal.returns-then-not-is_state
-returns-then-not-is_state c =
-    let a = c.args in
-    no_process a.state (sym c.is_state.ensures ∙ c.if-not-is_state.true) c.no_state.ensures a.mem.now a.coefs.now a.input.now a.out.now
-
-pub flat_answer-requires : goal.flat_answer-requires
-flat_answer-requires c =
-    let a = c.args in
-    rw c.process_float.ensures.tells (process_fits _ a.mem.now a.coefs.now a.input.now a.out.now)
-
-pub shape_of-mem : goal.shape_of-mem
-shape_of-mem c = c.process_float.auto.mem
-
-pub shape_of-out : goal.shape_of-out
-shape_of-out c = c.process_float.auto.out
-
-pub returns : goal.returns
-returns c =
-    let a = c.args in
-    processes a.state (yes (goal.at-returns c).Else-not-is_state) c.state_of.ensures c.process_float.result c.flat_answer.ensures a.mem.now a.coefs.now a.input.now a.out.now c.process_float.ensures
+pub called-requires-clause-fits : goal.called-requires-clause-fits
+called-requires-clause-fits c = λ s after a h.
+    let tells : told a ≡ process_told house s c.args.mem.now c.args.coefs.now c.args.input.now c.args.out.now = search rules in
+    rw tells (process_fits s c.args.mem.now c.args.coefs.now c.args.input.now c.args.out.now)

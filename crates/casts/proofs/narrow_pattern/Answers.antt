@@ -1,9 +1,8 @@
 -- `casts::narrow_pattern` meets its contract: each way returns the pattern of one case of proofs/casts/Cases.antt. Assumes nothing.
-use Rattle.std.proofs.Common.{◌≡◌, ℕ, ◌+◌, ◌-◌, ◌*◌, ◌/◌, ◌%◌, ◌^◌, ◌<◌, ◌≤◌, ◌⊎◌, sym, ap, ◌∙◌, subst, inl, inr, mod-lt, eq-or-lt_of_le, one-mul, arith, lit<, pow_pos, shl_exact, rules}
+use Rattle.std.proofs.Common.{◌≡◌, ℕ, ◌+◌, ◌-◌, ◌*◌, ◌/◌, ◌%◌, ◌^◌, ◌<◌, ◌≤◌, ◌⊎◌, sym, ap, ◌∙◌, subst, inl, inr, mod-lt, eq-or-lt_of_le, one-mul, arith, lit<, pow_pos, shl_exact}
 use lib.Ieee.{binary32, binary64, of_bits, to_bits}
 use lib.Ieee.Nearest.{closest}
 use Rattle.casts.specs.Narrowed.{narrowed}
-use Rattle.math.proofs.Closest.{closest_le}
 use Rattle.casts.proofs.Cases.{Reads, whole_pattern, reads_zero, reads_low, reads_mid, reads_high, reads_inf}
 use Rattle.casts.proofs.narrow_pattern.Goals as goal
 
@@ -34,13 +33,6 @@ returns-then-exponent-ge1151 c =
     let b = c.args.rest in
     whole_pattern b 0x7f80_0000 c.requires (high b c.requires c.if-exponent-ge1151.true)
 
-pub nearest_quotient-requires : goal.nearest_quotient-requires
-nearest_quotient-requires c =
-    let k = 926 - c.args.rest / 2 ^ 52 in (
-      search rules,
-      subst (λ (u : ℕ). 0 < u) (sym (unit-is k (omega arith))) (pow_pos k),
-    )
-
 low : (b r : ℕ) → b ≤ 2047 * 2 ^ 52 → 873 ≤ b / 2 ^ 52 → b / 2 ^ 52 < 897 → r ≡ closest (b % 2 ^ 52 + 2 ^ 52) (1 * 2 ^ (926 - b / 2 ^ 52) % 2 ^ 64) → r ≡ to_bits binary32 (narrowed (of_bits binary64 b))
 low b r h g l e =
     let E = b / 2 ^ 52 in
@@ -52,16 +44,10 @@ returns-then-exponent-lt897 c =
     low c.args.rest c.nearest_quotient.result c.requires c.if-exponent-lt873.false c.if-exponent-lt897.true c.nearest_quotient.ensures
 
 -- the digits of a normal value, rounded, with the carry
-mid_le : (b r : ℕ) → r ≡ closest (b % 2 ^ 52 + 2 ^ 52) (2 ^ 29) → r ≤ 2 ^ 24
-mid_le b r e = let t = digits_lt b in omega (arith, closest_le (b % 2 ^ 52 + 2 ^ 52) (2 ^ 29))
-
 mid : (b r : ℕ) → b ≤ 2047 * 2 ^ 52 → 897 ≤ b / 2 ^ 52 → b / 2 ^ 52 < 1151 → r ≡ closest (b % 2 ^ 52 + 2 ^ 52) (2 ^ 29) → (b / 2 ^ 52 - 897) * 2 ^ 23 + r ≡ to_bits binary32 (narrowed (of_bits binary64 b))
 mid b r h g l e =
     let E = b / 2 ^ 52 in
     whole_pattern b ((E - 897) * 2 ^ 23 + r) h (ap (λ (x : ℕ). (E - 897) * 2 ^ 23 + x) e ∙ reads_mid E (b % 2 ^ 52) g l (digits_lt b))
-
-pub overflow_add-result : goal.overflow_add-result
-overflow_add-result c = omega (arith, mid_le c.args.rest c.nearest_quotient-2.result c.nearest_quotient-2.ensures)
 
 pub returns : goal.returns
 returns c =

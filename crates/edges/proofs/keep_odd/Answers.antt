@@ -4,7 +4,7 @@ use Rattle.edges.proofs.Laws.{none_odd, one_odd}
 use Rattle.edges.proofs.keep_odd.Goals as goal
 
 pub returns-then-n-eq0 : goal.returns-then-n-eq0
-returns-then-n-eq0 c = record { bytes_after = none_odd c.args.bytes.now c.args.n c.requires c.if-n-eq0.true; value = omega arith }
+returns-then-n-eq0 c = record { bytes_after = none_odd c.args.bytes.now c.if-n-eq0.true; value = omega arith }
 
 pub returns : goal.returns
-returns c = record { bytes_after = one_odd c.args.bytes.now c.args.n c.requires (omega arith); value = omega arith }
+returns c = record { bytes_after = one_odd c.args.bytes.now (omega arith); value = omega arith }

@@ -1,11 +1,7 @@
--- `kernel::sums_on` meets its contract. The invariant: the sums are those of the first j samples, and the index is where the coefficients of
--- sample j start. The measure is how many samples are left. Assumes nothing.
-use Rattle.std.proofs.Common.{◌≡◌, ◌-◌, ◌≤◌}
-use Rattle.kernel.specs.Interpolated.{tap, four_sums}
+-- `kernel::sums_on` meets its contract. The invariant: the sums are those of the first j samples. Assumes nothing.
+use Rattle.std.proofs.Common.{◌≡◌}
+use Rattle.kernel.specs.Interpolated.{four_sums}
 use Rattle.kernel.proofs.sums_on.Given as goal
 
 abbrev pub invariant-loop-j : goal.invariant-loop-j
-invariant-loop-j l = (l.j ≤ l.to) × (l.idx ≡ tap l.oversample l.offset l.j) × (l.accum ≡ four_sums l.oversample l.offset l.j l.coefs l.window)
-
-abbrev pub decreases-loop-j : goal.decreases-loop-j
-decreases-loop-j l = l.to - l.j
+invariant-loop-j l = l.accum ≡ four_sums l.oversample l.offset l.j l.coefs l.window

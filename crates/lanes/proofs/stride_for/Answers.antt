@@ -9,9 +9,10 @@ use Rattle.lanes.proofs.stride_for.Goals as goal
 strided : (num reach : ℕ) → 0 < num → reach / num + 1 ≤ 2016 / num → Strided num reach (reach / num + 1)
 strided num reach some h =
     record {
-      rows = λ z. omega (arith, mul-le-mul_right {m = reach / num + 1} {n = 2016 / num} num h, div-mul-le_self 2016 num, mul_comm num (reach / num + 1));
-      columns = λ z. omega (arith, lt-div-mul-add {a = reach} some, add-mul (reach / num) 1 num, one-mul num);
-      num_some = λ z. some;
+      some = omega arith;
+      rows = omega (arith, mul-le-mul_right {m = reach / num + 1} {n = 2016 / num} num h, div-mul-le_self 2016 num, mul_comm num (reach / num + 1));
+      columns = omega (arith, lt-div-mul-add {a = reach} some, add-mul (reach / num) 1 num, one-mul num);
+      num_some = some;
     }
 
 pub overflow_add-stride : goal.overflow_add-stride

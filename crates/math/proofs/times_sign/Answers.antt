@@ -1,30 +1,40 @@
--- `math::times_sign` meets its contract: the highest bit of a pattern is the sign, which only a NaN has not. Assumes nothing.
-use mathlib.Core.Path.{◌≡◌, sym, ap}
-use mathlib.Core.Bool.{false}
-use lib.Dec.{T}
-use lib.Ieee.{Float, binary64, is_nan, fits}
+-- `math::times_sign` meets its contract: the definition goes by the sign, which only a NaN has not. Assumes nothing.
+use mathlib.Core.Path.{◌≡◌, refl, sym, ◌∙◌}
+use mathlib.Core.Bool.{true, false, not, true≢false}
+use lib.Ieee.{Float, nan, inf, fin, is_nan, neg}
+use Rattle.std.specs.Float.{is_sign_negative}
 use Rattle.math.specs.Sign.{times_sign}
-use Rattle.math.proofs.Pick.{passed, failed}
-use Rattle.math.proofs.Real.{unreal, real}
-use Rattle.math.proofs.Sign.{plus_pattern, minus_pattern}
 use Rattle.math.proofs.times_sign.Goals as goal
+use Rattle.math.proofs.times_sign.Goals.{then-is_nan-via-then-is_nan, then-is_nan-via-else-is_nan+then-is_sign_positive}
 
-pub returns-then-a : goal.returns-then-a
-unfolding times_sign
-returns-then-a c = let a = c.args in sym (ap (λ (x : Float). times_sign x a.v) (unreal a.a c.if-a.true))
+no_sign : (a v : Float) → is_nan a ≡ true → v ≡ times_sign a v
+unfolding is_nan times_sign
+no_sign nan v e = refl
+no_sign (inf s) v e = absurd (true≢false (sym e))
+no_sign (fin s m k) v e = absurd (true≢false (sym e))
 
--- what owning an `f64` tells: the format holds it
-held : (c : goal.Else-a) → T (fits binary64 c.args.a)
-held c = passed c.well_formed.0.1
+plus : (a v : Float) → not (is_sign_negative a) ≡ true → v ≡ times_sign a v
+unfolding is_sign_negative times_sign
+plus nan v e = refl
+plus (inf true) v e = absurd (true≢false (sym e))
+plus (inf false) v e = refl
+plus (fin true m k) v e = absurd (true≢false (sym e))
+plus (fin false m k) v e = refl
 
-not-nan : (c : goal.Else-a) → is_nan c.args.a ≡ false
-not-nan c = real c.args.a c.if-a.false
+minus : (a v : Float) → not (is_sign_negative a) ≡ false → neg v ≡ times_sign a v
+unfolding is_sign_negative times_sign
+minus nan v e = absurd (true≢false e)
+minus (inf true) v e = refl
+minus (inf false) v e = absurd (true≢false e)
+minus (fin true m k) v e = refl
+minus (fin false m k) v e = absurd (true≢false e)
 
-pub float_to_bits-a : goal.float_to_bits-a
-float_to_bits-a c = failed (not-nan c)
-
-pub returns-then-a-lt9223372036854775808 : goal.returns-then-a-lt9223372036854775808
-returns-then-a-lt9223372036854775808 c = plus_pattern _ _ (held c.before) (not-nan c.before) c.if-a-lt9223372036854775808.true
+pub returns-then-is_nan : goal.returns-then-is_nan
+returns-then-is_nan c =
+    elim c.then-is_nan.branch [
+      | then-is_nan-via-then-is_nan w ↦ no_sign _ _ (sym c.is_nan.ensures.value ∙ w.if-is_nan.true)
+      | then-is_nan-via-else-is_nan+then-is_sign_positive w ↦ plus _ _ (sym w.is_sign_positive.ensures ∙ w.if-is_sign_positive.true)
+    ]
 
 pub returns : goal.returns
-returns c = minus_pattern _ _ (held c.before) (not-nan c.before) c.if-a-lt9223372036854775808.false
+returns c = minus _ _ (sym c.is_sign_positive.ensures ∙ c.if-is_sign_positive.false)

@@ -35,26 +35,8 @@ setting-setting-requires c =
     let k = known (goal.at-setting-setting-requires c).Start in
     (k.fits.playable.n_to, k.limits.oversample_to, k.limits.terms.den_to)
 
-pub overflow_cast-place : goal.overflow_cast-place
-overflow_cast-place c = omega (arith, (known (goal.at-overflow_cast-place c).Start).fits.position)
-
-pub overflow_cast-place-2 : goal.overflow_cast-place-2
-overflow_cast-place-2 c =
-    let k = known (goal.at-overflow_cast-place-2 c).Start in
-    omega (arith, k.fits.phase, k.limits.terms.den_to)
-
-pub overflow_cast-magic : goal.overflow_cast-magic
-overflow_cast-magic c =
-    let k = known (goal.at-overflow_cast-magic c).Start in
-    omega (arith, k.fits.magic, k.rated.alloc_to)
-
 pub process_call-called-requires : goal.process_call-called-requires
 process_call-called-requires c = rw c.setting-setting.ensures (known (goal.at-process_call-called-requires c).Start).fits
-
-pub overflow_cast-left : goal.overflow_cast-left
-overflow_cast-left c =
-    let k = known (goal.at-overflow_cast-left c).Start in
-    omega (arith, ended (goal.at-overflow_cast-left c).After-process_call-called, k.rated.alloc_to)
 
 pub overflow_cast-place-3 : goal.overflow_cast-place-3
 overflow_cast-place-3 c =
@@ -70,4 +52,4 @@ pub returns : goal.returns
 returns c =
     let a = c.args in
     plays a.state a.mem.now a.coefs.now a.input.now a.out.now (wrote (goal.at-returns c).After-process_call-called)
-    (rw (← c.started_after-started.ensures) c.moved_to-state.ensures)
+    (rw (← c.started_after-started.ensures) c.moved_to.ensures)

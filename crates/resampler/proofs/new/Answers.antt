@@ -1,11 +1,14 @@
 -- `resampler::new` meets its contract: each way out is a verdict's. Assumes nothing.
 use Rattle.resampler.specs.Entries.{new_told}
+use Rattle.resampler.proofs.Outcomes.{handed_back, passed, stopped}
 use Rattle.resampler.proofs.new.Goals as goal
 
-pub returns-in-Refuse : goal.returns-in-Refuse
+pub returns-in_err-judged : goal.returns-in_err-judged
 unfolding new_told
-returns-in-Refuse c = rw (← c.judge_new-verdict.ensures, c.in-Refuse.is, c.zero.ensures)
+returns-in_err-judged c =
+    let p = stopped _ _ _ c.judged.ensures c.in_err-judged.was in
+    rw (handed_back c.from_residual.result c.from_residual.ensures.1, ← c.judge_new.ensures, p.0, p.1, c.zero-state.ensures)
 
-pub returns-in-Accept : goal.returns-in-Accept
+pub returns : goal.returns
 unfolding new_told
-returns-in-Accept c = rw (← c.judge_new-verdict.ensures, c.in-Accept.is, c.fresh.ensures)
+returns c = rw (c.uncounted.ensures, ← c.judge_new.ensures, passed _ _ _ c.judged.ensures c.in_ok-judged.was, c.fresh.ensures)

@@ -5,25 +5,26 @@ use Rattle.quality.specs.House.{house}
 use Rattle.quality.specs.declared.QualityMapping.{QualityMapping}
 use Rattle.quality.proofs.House.{house_sane}
 use Rattle.judge.specs.Verdicts.{process_verdict}
-use Rattle.resampler.proofs.Outcomes.{verdict_is, process_refused, process_done}
+use Rattle.resampler.proofs.Outcomes.{handed_back, passed, accepts, refuses, process_refused, process_done}
 use Rattle.resampler.proofs.process_float.Goals as goal
 
 pub judge_process-verdict-requires : goal.judge_process-verdict-requires
 judge_process-verdict-requires c = rw c.house-row.ensures house_sane
 
-pub process-done-requires : goal.process-done-requires
-process-done-requires c =
-    (rw c.house-row.ensures house_sane, sym c.judge_process-verdict.ensures ∙ c.in-Accept.is)
+pub process-requires : goal.process-requires
+process-requires c =
+    (rw c.house-row.ensures house_sane, sym c.judge_process-verdict.ensures ∙ passed _ _ _ c.judged.ensures c.in_ok-judged.was)
 
-pub returns-in-Refuse : goal.returns-in-Refuse
-returns-in-Refuse c =
+pub returns-in_err-judged : goal.returns-in_err-judged
+returns-in_err-judged c =
     let a = c.args in
-    process_refused house a.state a.mem.now a.coefs.now a.input.now a.out.now _
-    (verdict_is (λ (row : QualityMapping). process_verdict row a.state (length a.mem.now) (length a.coefs.now) (length a.input.now) (length a.out.now)) c.house-row.ensures c.judge_process-verdict.ensures c.in-Refuse.is)
+    rw (handed_back c.from_residual.result c.from_residual.ensures.1)
+    (process_refused house a.state a.mem.now a.coefs.now a.input.now a.out.now _
+    (refuses (λ (row : QualityMapping). process_verdict row a.state (length a.mem.now) (length a.coefs.now) (length a.input.now) (length a.out.now)) c.house-row.ensures c.judge_process-verdict.ensures a.state c.judged.ensures c.in_err-judged.was))
 
-pub returns-in-Accept : goal.returns-in-Accept
-returns-in-Accept c =
+pub returns : goal.returns
+returns c =
     let a = c.args in
     process_done house a.state a.mem.now a.coefs.now a.input.now a.out.now
-    (verdict_is (λ (row : QualityMapping). process_verdict row a.state (length a.mem.now) (length a.coefs.now) (length a.input.now) (length a.out.now)) c.house-row.ensures c.judge_process-verdict.ensures c.in-Accept.is)
-    c.process-done.ensures
+    (accepts (λ (row : QualityMapping). process_verdict row a.state (length a.mem.now) (length a.coefs.now) (length a.input.now) (length a.out.now)) c.house-row.ensures c.judge_process-verdict.ensures a.state c.judged.ensures c.in_ok-judged.was)
+    c.process.ensures

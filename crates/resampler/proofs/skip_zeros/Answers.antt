@@ -3,20 +3,24 @@ use Rattle.quality.specs.declared.QualityMapping.{QualityMapping}
 use Rattle.quality.proofs.House.{house_sane}
 use Rattle.judge.specs.Verdicts.{skip_verdict}
 use Rattle.resampler.specs.Entries.{skip_told}
-use Rattle.resampler.proofs.Outcomes.{verdict_is}
+use Rattle.resampler.proofs.Outcomes.{handed_back, accepts, refuses}
 use Rattle.resampler.proofs.skip_zeros.Goals as goal
 
-pub judge_skip-verdict-requires : goal.judge_skip-verdict-requires
-judge_skip-verdict-requires c = rw c.house-row.ensures house_sane
+pub judge_skip-requires : goal.judge_skip-requires
+judge_skip-requires c = rw c.house-row.ensures house_sane
 
-pub returns-in-Refuse : goal.returns-in-Refuse
+pub returns-in_err-judged : goal.returns-in_err-judged
 unfolding skip_told
-returns-in-Refuse c =
+returns-in_err-judged c =
     let a = c.args in
-    rw (verdict_is (λ (row : QualityMapping). skip_verdict row a.state) c.house-row.ensures c.judge_skip-verdict.ensures c.in-Refuse.is)
+    let p = refuses (λ (row : QualityMapping). skip_verdict row a.state) c.house-row.ensures c.judge_skip.ensures a.state c.judged.ensures c.in_err-judged.was in
+    rw (handed_back c.from_residual.result c.from_residual.ensures.1, p.0, p.1)
 
-pub returns-in-Accept : goal.returns-in-Accept
+pub returns : goal.returns
 unfolding skip_told
-returns-in-Accept c =
+returns c =
     let a = c.args in
-    rw (verdict_is (λ (row : QualityMapping). skip_verdict row a.state) c.house-row.ensures c.judge_skip-verdict.ensures c.in-Accept.is, c.moved_to-after.ensures)
+    rw (
+      c.uncounted.ensures,
+      accepts (λ (row : QualityMapping). skip_verdict row a.state) c.house-row.ensures c.judge_skip.ensures a.state c.judged.ensures c.in_ok-judged.was,
+    )

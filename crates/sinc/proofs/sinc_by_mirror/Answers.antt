@@ -1,17 +1,10 @@
 -- `sinc::sinc_by_mirror` meets its contract: the sinc is even (`proofs/Mirrored.antt`), and values of f32 that have the same bits are the same. Assumes nothing.
 use Rattle.std.proofs.Common.{◌≡◌, Bool, true, T, sym, subst}
-use Rattle.math.proofs.Negated.{real_neg}
 use Rattle.sinc.proofs.Mirrored.{by_bits}
 use Rattle.sinc.proofs.sinc_by_mirror.Goals as goal
 
 passed : {t : Bool} → t ≡ true → T t
 passed e = subst T (sym e) tt
-
-pub float_to_bits-x : goal.float_to_bits-x
-float_to_bits-x c = rw c.requires.x_real tt
-
-pub float_to_bits-y : goal.float_to_bits-y
-float_to_bits-y c = rw (real_neg c.args.y c.requires.y_real) tt
 
 pub returns-then-x-y : goal.returns-then-x-y
 returns-then-x-y c =

@@ -1,14 +1,9 @@
 -- `sinc::windowed_sinc` meets its contract: its steps are the definition's, and widening an f32 keeps the number. Assumes nothing.
-use Rattle.std.proofs.Common.{sym, subst}
 use lib.Ieee.{of_bits}
 use Rattle.math.specs.Numerals.{decimal64}
 use Rattle.sine.specs.Sine.{C}
-use Rattle.window.specs.Window.{NotAboveOne}
 use Rattle.sinc.specs.Sinc.{windowed_sinc}
 use Rattle.sinc.proofs.windowed_sinc.Goals as goal
-
-pub compute_func-second_factor-requires : goal.compute_func-second_factor-requires
-compute_func-second_factor-requires c = subst NotAboveOne (sym c.place_at.ensures) c.requires
 
 pub returns : goal.returns
 unfolding windowed_sinc C decimal64 of_bits

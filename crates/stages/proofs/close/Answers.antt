@@ -1,6 +1,4 @@
 -- `stages::close` meets its contract: the samples lent are zeros as far as the call reads them (`proofs/Laws.antt`). Assumes nothing.
-use mathlib.Core.Path.{sym}
-use lib.Seq.{length-take-le}
 use native.Mathlib.Omega.{arith}
 use Rattle.edges.proofs.Laws.{zeros_to}
 use Rattle.stages.specs.Promises.{bare_stage}
@@ -12,24 +10,6 @@ fill_zero-requires c = omega (arith, zeros_to c.args.kept.came c.args.filt_len)
 
 pub slice_bounds-pull-end : goal.slice_bounds-pull-end
 slice_bounds-pull-end c = zeros_fit c.args.samples.now c.fill_zero.new.mem c.closing_zeros-count.result c.fill_zero.ensures (omega (arith, zeros_to c.args.kept.came c.args.filt_len))
-
-pub slice_bounds-pull-end-2 : goal.slice_bounds-pull-end-2
-slice_bounds-pull-end-2 c = sym (length-take-le _ _ (zeros_fit c.args.samples.now c.fill_zero.new.mem c.closing_zeros-count.result c.fill_zero.ensures (omega (arith, zeros_to c.args.kept.came c.args.filt_len))))
-
-pub pull-requires : goal.pull-requires
-pull-requires c = c.requires.out_in_bounds
-
-pub shape_of-mem : goal.shape_of-mem
-shape_of-mem c = c.pull.auto.mem
-
-pub shape_of-samples : goal.shape_of-samples
-shape_of-samples c = c.fill_zero.auto.mem
-
-pub shape_of-out : goal.shape_of-out
-shape_of-out c = c.pull.auto.out
-
-pub shape_of-text : goal.shape_of-text
-shape_of-text c = c.pull.auto.text
 
 pub returns : goal.returns
 returns c =

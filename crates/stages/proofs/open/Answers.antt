@@ -2,11 +2,5 @@
 use Rattle.stages.proofs.Laws.{opens}
 use Rattle.stages.proofs.open.Goals as goal
 
-pub shape_of-mem : goal.shape_of-mem
-shape_of-mem c = c.source_hz.auto.mem
-
-pub shape_of-coefs : goal.shape_of-coefs
-shape_of-coefs c = c.source_hz.auto.coefs
-
 pub returns : goal.returns
 returns c = opens c.new.result c.new.ensures c.state_of-fresh.ensures c.source_hz.ensures c.state_of.ensures

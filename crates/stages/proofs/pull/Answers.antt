@@ -10,14 +10,5 @@ slice_bounds-encode-end c = written_within c.process_float-answer.ensures c.writ
 pub slice_bounds-encode-end-2 : goal.slice_bounds-encode-end-2
 slice_bounds-encode-end-2 c = sym (length-take-le _ _ (written_within c.process_float-answer.ensures c.written_of-written.ensures))
 
-pub shape_of-mem : goal.shape_of-mem
-shape_of-mem c = c.process_float-answer.auto.mem
-
-pub shape_of-out : goal.shape_of-out
-shape_of-out c = c.process_float-answer.auto.out
-
-pub shape_of-text : goal.shape_of-text
-shape_of-text c = c.encode-size.auto.out
-
 pub returns : goal.returns
 returns c = pulls c.process_float-answer.ensures c.requires c.written_of-written.ensures c.encode-size.ensures c.state_of.ensures

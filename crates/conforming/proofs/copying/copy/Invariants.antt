@@ -1,9 +1,6 @@
--- At most one byte is held from turn to turn, and the turns that are left fall.
+-- At most one byte is held from turn to turn.
 use Rattle.std.proofs.Common.{◌≤◌}
 use Rattle.conforming.proofs.copying.copy.Given as goal
 
-abbrev pub invariant-loop-turns : goal.invariant-loop-turns
-invariant-loop-turns g l = l.held ≤ 1
-
-abbrev pub decreases-loop-turns : goal.decreases-loop-turns
-decreases-loop-turns g l = l.turns
+abbrev pub invariant-loop : goal.invariant-loop
+invariant-loop g l = l.held ≤ 1

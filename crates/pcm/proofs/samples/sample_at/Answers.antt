@@ -11,5 +11,5 @@ returns c =
     let a = c.args in
     let read = to_z-of_z w16 c.sample_of.result (record { sfits = c.sample_of.type_inv }) in
     c.from_i16.ensures
-    ∙ ap from_i16 (read ∙ c.sample_of.ensures ∙ ap sample_of c.word16.ensures.0)
+    ∙ ap from_i16 (read ∙ c.sample_of.ensures ∙ ap sample_of c.word16.ensures)
     ∙ sym (get_or_samples a.bytes.now a.i c.requires)

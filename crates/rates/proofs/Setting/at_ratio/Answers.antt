@@ -16,12 +16,6 @@ bounded {row} {num} {den} p =
     let l = at_ratio_lem row s num den p.1 in
     (omega arith, l.oversample_to)
 
-pub filter_length-n-requires : goal.filter_length-n-requires
-filter_length-n-requires c = c.requires
-
-pub oversampling-oversample-requires : goal.oversampling-oversample-requires
-oversampling-oversample-requires c = c.requires
-
 pub kernel_for-kernel-requires : goal.kernel_for-kernel-requires
 kernel_for-kernel-requires c =
     omega (arith, bounded c.requires, c.oversampling-oversample.ensures, c.filter_length-n.ensures)
@@ -29,9 +23,6 @@ kernel_for-kernel-requires c =
 pub coefficients-requires : goal.coefficients-requires
 coefficients-requires c =
     omega (arith, bounded c.requires, c.oversampling-oversample.ensures, c.filter_length-n.ensures)
-
-pub cutoff-requires : goal.cutoff-requires
-cutoff-requires c = c.requires.1
 
 pub returns : goal.returns
 unfolding setting_at

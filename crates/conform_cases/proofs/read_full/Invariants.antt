@@ -1,9 +1,0 @@
--- What is read so far fits the block, and what is left to fill falls with every turn.
-use Rattle.std.proofs.Common.{length, ◌-◌, ◌≤◌}
-use Rattle.conform_cases.proofs.read_full.Given as goal
-
-abbrev pub invariant-loop-done : goal.invariant-loop-done
-invariant-loop-done g l = l.done ≤ length l.block
-
-abbrev pub decreases-loop-done : goal.decreases-loop-done
-decreases-loop-done g l = length l.initial.block - l.done

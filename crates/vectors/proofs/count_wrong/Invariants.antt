@@ -1,9 +1,0 @@
--- A line starts within the text, and what is left of the text falls with every turn, since a line has bytes.
-use Rattle.std.proofs.Common.{length, ◌-◌, ◌≤◌}
-use Rattle.vectors.proofs.count_wrong.Given as goal
-
-abbrev pub invariant-loop-at : goal.invariant-loop-at
-invariant-loop-at g l = l.at ≤ length l.text
-
-abbrev pub decreases-loop-at : goal.decreases-loop-at
-decreases-loop-at g l = length l.text - l.at
