@@ -1,7 +1,7 @@
 -- An accepted call hands back a state that belongs together; the state of a refused new one gets 7 from every later call. Assumes nothing.
 use mathlib.Core.Path.{◌≡◌, refl, ap}
 use mathlib.Core.Logic.{⊎_elim}
-use mathlib.Core.Bool.{Bool, true, false, cond, not}
+use mathlib.Core.Bool.{Bool, true, false, cond}
 use mathlib.Core.List.{List}
 use Prim.Native.Nat.{ℕ, ◌+◌, ◌*◌, ◌/◌, ◌≤◌, ◌<◌}
 use native.Mathlib.Omega.{arith}
@@ -78,8 +78,8 @@ unfolding with_setting setting_of setting_at
 settings_agree row s source = refl
 
 -- none where the state never started
-magic_none : (c : Change) → (c.started ≡ false → c.magic_samples ≡ 0) → c.started ≡ false → reshaped_magic c ≡ 0
-magic_none c none z = rw z (none z)
+magic_none : (c : Change) → (c.started ≡ 0 → c.magic_samples ≡ 0) → c.started ≡ 0 → reshaped_magic c ≡ 0
+magic_none c none z = rw (eq-eqb c.started 0 z) (none z)
 
 module _ (row : QualityMapping) (sane : Sane row) (s : ResamplerState) where
   -- so it is one with a rate, whose numbers belong together
@@ -99,7 +99,7 @@ module _ (row : QualityMapping) (sane : Sane row) (s : ResamplerState) where
         position = omega arith;
         magic = k.magic_to;
         started = st.started;
-        unstarted = λ z. magic_none (change_of s (setting_of row source s.target)) (λ e. st.unstarted z) (ap not (eq-eqb s.started 0 z));
+        unstarted = magic_none (change_of s (setting_of row source s.target)) st.unstarted;
       }
 
   pub rate_belongs : (source : ℕ) (mem coefs : List Float) → Belonging row (rate_told row s source mem coefs)

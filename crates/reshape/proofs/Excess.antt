@@ -3,8 +3,8 @@
 use mathlib.Core.List.{List}
 use Prim.Native.Nat.{ℕ, ◌+◌, ◌-◌, ◌*◌, ◌/◌, ◌≤◌, ◌<◌}
 use native.Mathlib.Omega.{arith}
-use borrow.Author.Tests.{ltb-true, ltb-false}
-use lib.Dec.{ltb}
+use borrow.Author.Tests.{eqb-false, ltb-true, ltb-false}
+use lib.Dec.{ltb, eqb}
 use lib.Ieee.{Float}
 use lib.ListN.{length, drop, length-drop, length-replicate}
 use lib.Seq.{paste}
@@ -56,14 +56,14 @@ module _ (h : List Float) (c : Change) (fits : ChangeFits (length h) c) where
       let a = zeroed_keeps h fits.lent c.old_alloc_size (alloc - c.old_alloc_size) (omega (arith, fits.grows)) in
       let lent : alloc ≤ length (grown h c) = omega (arith, a.long, fits.lent) in
       kept_both a
-      (cond_both c.started _ _ (KeptFrom alloc (grown h c))
+      (cond_both (eqb c.started 0) _ _ (KeptFrom alloc (grown h c))
+      (λ t. zeroed_keeps (grown h c) lent 0 alloc (omega arith))
       (λ t.
-      let used = fits.before t in
+      let used = fits.before (eqb-false c.started 0 t) in
       let within : old + 2 * m ≤ alloc = omega (arith, used.1, fits.grows) in
       cond_both (ltb old n) _ _ (KeptFrom alloc (grown h c))
       (λ u. longer_keeps (grown h c) lent old n m used.0 within fits.holds)
       (λ u.
       cond_both (ltb n old) _ _ (KeptFrom alloc (grown h c))
       (λ v. shorter_keeps (grown h c) lent old n m (ltb-true n old v) within)
-      (λ v. kept_all (grown h c))))
-      (λ t. zeroed_keeps (grown h c) lent 0 alloc (omega arith)))
+      (λ v. kept_all (grown h c)))))

@@ -2,7 +2,7 @@
 -- `paste d at s n` is the library's: d, where the n entries from `at` on take the first n of s. So every copy reads values as they were before it.
 -- old and n are the filter's length before and after, m the magic samples before.
 -- Assumes nothing.
-use Rattle.std.specs.Prelude.{ℕ, ◌+◌, ◌-◌, ◌*◌, ◌/◌, ◌≤◌, ◌<◌, ◌≡◌, List, true, cond, ltb, drop, Float}
+use Rattle.std.specs.Prelude.{ℕ, ◌+◌, ◌-◌, ◌*◌, ◌/◌, ◌≤◌, ◌<◌, ◌≡◌, List, cond, ltb, eqb, drop, Float}
 use Rattle.std.proofs.Math.Seq.{paste}
 use Rattle.history.specs.Zeroed.{zeroed}
 use Rattle.reshape.specs.declared.Change.{Change}
@@ -57,10 +57,9 @@ reshaped_history h c =
     let old = c.old_length in
     let n = c.filt_len in
     let m = c.magic_samples in
-    cond c.started
+    cond (eqb c.started 0) (zeroed (grown h c) 0 c.mem_alloc_size)
     (cond (ltb old n) (longer (grown h c) old n m)
     (cond (ltb n old) (shorter (grown h c) old n m) (grown h c)))
-    (zeroed (grown h c) 0 c.mem_alloc_size)
 
 -- the magic samples after a change: as many as before where no round has run yet, or where the lengths are equal
 abbrev pub reshaped_magic : Change → ℕ
@@ -68,10 +67,9 @@ reshaped_magic c =
     let old = c.old_length in
     let n = c.filt_len in
     let m = c.magic_samples in
-    cond c.started
+    cond (eqb c.started 0) m
     (cond (ltb old n) (longer_magic old n m)
     (cond (ltb n old) (shorter_magic old n m) m))
-    m
 
 -- what a change of rate knows of its numbers, `len` being the lent slice's length: alloc never shrinks and holds the new filter, and a state that was started has an old filter whose history and magic samples lie within the old alloc
 pub record ChangeFits (len : ℕ) (c : Change) : Type 0 where
@@ -79,4 +77,4 @@ pub record ChangeFits (len : ℕ) (c : Change) : Type 0 where
   pub lent : c.mem_alloc_size ≤ len
   pub holds : c.filt_len ≤ c.mem_alloc_size
   pub some : 0 < c.filt_len
-  pub before : c.started ≡ true → (0 < c.old_length) × (c.old_length + 2 * c.magic_samples ≤ c.old_alloc_size)
+  pub before : (c.started ≡ 0 → ⊥) → (0 < c.old_length) × (c.old_length + 2 * c.magic_samples ≤ c.old_alloc_size)

@@ -7,12 +7,12 @@
 ghost use Rattle.std.specs.Prelude.{◌≡◌, ◌+◌, ◌*◌, ◌≤◌, ◌<◌, length};
 ghost use Rattle.reshape.specs.Reshaped.{raised, longer, longer_magic, shorter, shorter_magic, reshaped_history, reshaped_magic, ChangeFits};
 
-// A change of rate, as the history sees it: whether a round ever ran, the history's length before and
+// A change of rate, as the history sees it: 0 where no round ever ran, the history's length before and
 // after, the filter's length before and after, and the magic samples before.
-// The state's `started` is a number, 0 or 1, since C has it so.
+// `started` is a number, any but 0 where a round ran: so the state has it, and so C does.
 #[derive(Clone, Copy)]
 pub struct Change {
-    pub started: bool,
+    pub started: usize,
     pub old_alloc_size: usize,
     pub mem_alloc_size: usize,
     pub old_length: usize,
@@ -67,7 +67,7 @@ pub fn reshape_history(mem: &mut [f32], change: Change) -> usize
 {
     let alloc = change.mem_alloc_size;
     history::fill_zero(mem, change.old_alloc_size, alloc - change.old_alloc_size);
-    if !change.started {
+    if change.started == 0 {
         history::fill_zero(mem, 0, alloc);
         return change.magic_samples;
     }

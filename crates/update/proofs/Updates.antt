@@ -1,11 +1,10 @@
 -- An accepted change to another rate gives all that it asks for. Assumes nothing.
 use mathlib.Core.Path.{◌≡◌, ap}
 use mathlib.Core.Logic.{⊎_elim}
-use mathlib.Core.Bool.{true, false, not}
 use Prim.Native.Nat.{ℕ, ◌+◌, ◌*◌, ◌≤◌, ◌<◌}
 use native.Mathlib.Omega.{arith}
 use lib.Dec.{eqb, ltb}
-use borrow.Author.Tests.{eqb-true, eqb-false, ltb-true, ltb-false, not-true, not-false}
+use borrow.Author.Tests.{eqb-true, eqb-false, ltb-true, ltb-false}
 use Rattle.std.proofs.lemmas.Bool.{cond_both}
 use Rattle.sizes.specs.Sizes.{InLimits, buffer_entries, history_needed, max_history}
 use Rattle.quality.specs.Quality.{Sane}
@@ -64,17 +63,10 @@ rated_stands row sane s r =
       filled = λ z. (omega (arith, l.n_from, sane.base_from), r.magic);
     }
 
--- what the flag of a change says of the number that the state has
-ran : (n : ℕ) → not (eqb n 0) ≡ true → n ≡ 0 → ⊥
-ran n e = eqb-false n 0 (not-true (eqb n 0) e)
-
-not_ran : (n : ℕ) → not (eqb n 0) ≡ false → n ≡ 0
-not_ran n e = eqb-true n 0 (not-false (eqb n 0) e)
-
 -- the new magic samples, each counted twice, fit beside the new filter
 pub magic_fits : (c : Change) → history_needed c.filt_len ≤ c.mem_alloc_size → c.old_alloc_size ≤ c.mem_alloc_size
-    → 0 < c.filt_len → (c.started ≡ false → c.magic_samples ≡ 0)
-    → (c.started ≡ true
+    → 0 < c.filt_len → (c.started ≡ 0 → c.magic_samples ≡ 0)
+    → ((c.started ≡ 0 → ⊥)
     → (0 < c.old_length) × (history_needed (c.old_length + 2 * c.magic_samples) ≤ c.old_alloc_size))
     → history_needed (c.filt_len + 2 * reshaped_magic c) ≤ c.mem_alloc_size
 magic_fits c h k some none filled =
@@ -82,13 +74,13 @@ magic_fits c h k some none filled =
     let n = c.filt_len in
     let m = c.magic_samples in
     let Fits : ℕ → Type 0 = λ x. history_needed (n + 2 * x) ≤ c.mem_alloc_size in
-    cond_both c.started _ _ Fits
+    cond_both (eqb c.started 0) _ _ Fits
+    (λ e. let z = none (eqb-true c.started 0 e) in omega arith)
     (λ e.
-    let p = filled e in
+    let p = filled (eqb-false c.started 0 e) in
     cond_both (ltb old n) _ _ Fits
     (λ u. cond_both (ltb (old + 2 * m) n) _ _ Fits (λ v. omega arith) (λ v. omega (arith, ltb-false (old + 2 * m) n v)))
     (λ u. cond_both (ltb n old) _ _ Fits (λ v. omega (arith, ltb-true n old v)) (λ v. omega (arith, ltb-false old n u, ltb-false n old v))))
-    (λ e. let z = none e in omega arith)
 
 -- what a change of rate asks for
 pub record RateReady (row : QualityMapping) (s : ResamplerState) (source mem coefs : ℕ) : Type 0 where
@@ -118,9 +110,9 @@ rate_ready row sane s source mem coefs e other =
         lent = v.history other;
         holds = omega arith;
         some = some;
-        before = λ e. let p = st.filled (ran s.started e) in omega arith;
+        before = λ z. let p = st.filled z in omega arith;
       };
       table = setting_fits row sane source s.target v.source_in st.target coefs (v.coefficients other);
       alloc_to = omega (arith, st.alloc_to, l.history_to);
-      magic_to = magic_fits (change_of s setting) (omega arith) (omega arith) some (λ e. st.unstarted (not_ran s.started e)) (λ e. st.filled (ran s.started e));
+      magic_to = magic_fits (change_of s setting) (omega arith) (omega arith) some st.unstarted st.filled;
     }

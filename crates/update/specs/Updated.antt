@@ -1,7 +1,7 @@
 -- Document 01, "Setting a rate", from "The old phase" on: the state, the history and the coefficients once a rate is set. `setting` is what the
 -- new rates give, s the state before.
 -- Assumes nothing.
-use Rattle.std.specs.Prelude.{ℕ, ◌*◌, ◌-◌, ◌/◌, min, not, eqb, List, Float}
+use Rattle.std.specs.Prelude.{ℕ, ◌*◌, ◌-◌, ◌/◌, min, List, Float}
 use Rattle.std.proofs.Math.Seq.{paste}
 use Rattle.rates.specs.declared.Setting.{Setting}
 use Rattle.filter.specs.Settings.{table_of}
@@ -22,7 +22,7 @@ position_after s n = n / 2
 abbrev pub change_of : ResamplerState → Setting → Change
 change_of s setting =
     record {
-      started = not (eqb s.started 0);
+      started = s.started;
       old_alloc_size = s.mem_alloc_size;
       mem_alloc_size = history_after s setting;
       old_length = s.filt_len;

@@ -36,7 +36,7 @@ fn change(state: ResamplerState, setting: Setting) -> Change
 {
     let alloc = judge::history_after(state.mem_alloc_size, setting.filt_len);
     Change {
-        started: state.started != 0,
+        started: state.started as usize,
         old_alloc_size: state.mem_alloc_size as usize,
         mem_alloc_size: alloc as usize,
         old_length: state.filt_len as usize,
