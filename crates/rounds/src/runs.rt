@@ -49,7 +49,8 @@ impl<'a> Player<'a> {
         }
     }
 
-    // Four outputs at four places, none before the first or after the last.
+    // Four outputs at four places, none before the first or after the last. Their windows are counted in the
+    // part of the history from the first position on.
     fn output_four(&self, a: Place, b: Place, c: Place, d: Place) -> [f32; 4]
         requires in_order { (a.position ≤ b.position) × (a.position ≤ c.position) × (b.position ≤ d.position) × (c.position ≤ d.position) }
         requires stands { Stands self.now.setting (place_of a) (length self.now.mem.now) × Stands self.now.setting (place_of b) (length self.now.mem.now) × Stands self.now.setting (place_of c) (length self.now.mem.now) × Stands self.now.setting (place_of d) (length self.now.mem.now) }
@@ -61,10 +62,11 @@ impl<'a> Player<'a> {
             self.phase_at(c.phase),
             self.phase_at(d.phase),
         ];
-        let starts = [a.position, b.position, c.position, d.position];
+        let at = a.position;
+        let starts = [0, b.position - at, c.position - at, d.position - at];
         let n = self.setting.filt_len as usize;
         let oversample = self.setting.oversample as usize;
-        abreast::step_four(phases, self.mem, starts, self.coefs, n, oversample)
+        abreast::step_four(phases, &self.mem[at..], starts, self.coefs, n, oversample)
     }
 
     // The outputs by fours, as long as there are four. `count` stands beside `out`, here and in the next
