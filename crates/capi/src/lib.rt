@@ -4,24 +4,22 @@
 //
 // Each function but `marshdeck_needed` is one function of ours, through the twins of the crate `flat` where it
 // has a state or an enum, and its contract is that function's, said of the state that the flat one stands
-// for. None that C calls has a `requires`. Numbers that no state has get refusal 7 before any slice is looked at.
+// for. None has a `requires`. Numbers that no state has get refusal 7 before any slice is looked at.
 #![tactic(auto)]
 
-ghost use Rattle.std.specs.Prelude.{◌≡◌, ◌≤◌, true, false};
+ghost use Rattle.std.specs.Prelude.{◌≡◌};
 ghost use Rattle.quality.specs.House.{house};
 ghost use Rattle.sine.specs.Sine.{sine_at};
 ghost use Rattle.sixteen.specs.Sixteen.{from_i16, to_i16};
-ghost use Rattle.judge.specs.Refusals.{max_call};
-ghost use Rattle.resampler.specs.Answers.{told};
 ghost use Rattle.resampler.specs.Entries.{new_told, skip_told};
 ghost use Rattle.recording.specs.Totals.{closed_total_told};
-ghost use Rattle.flat.specs.Flat.{state_of, is_state, flat_told, no_state, flat_call, flat_total};
+ghost use Rattle.flat.specs.Flat.{flat_told, flat_call, flat_total};
 ghost use Rattle.capi.specs.Promises.{FlatSetsRate, FlatProcesses, FlatResets, needed_sizes};
 
 use flat::{FlatAnswer, FlatSizes, FlatState, FlatTotal};
 use quality::QualityMapping;
 use rates::Setting;
-use resampler::{Answer, Consumed, ResamplerState};
+use resampler::Consumed;
 
 // A new state.
 pub fn marshdeck_new(target_hz: u32) -> FlatAnswer
@@ -39,7 +37,7 @@ pub fn marshdeck_set_rate(
 ) -> FlatAnswer
     ensures { FlatSetsRate state source_hz mem.old coefs.old result mem.new coefs.new }
 {
-    called(
+    flat::called(
         state,
         &mut |state| resampler::source_hz(state, source_hz, mem, coefs),
     )
@@ -55,7 +53,7 @@ pub fn marshdeck_process(
 ) -> FlatAnswer
     ensures { FlatProcesses state mem.old coefs.now input.now out.old result mem.new out.new }
 {
-    called(
+    flat::called(
         state,
         &mut |state| resampler::process_float(state, mem, coefs, input, out),
     )
@@ -65,14 +63,14 @@ pub fn marshdeck_process(
 pub fn marshdeck_reset(state: FlatState, mem: &mut [f32]) -> FlatAnswer
     ensures { FlatResets state mem.old result mem.new }
 {
-    called(state, &mut |state| resampler::reset_mem(state, mem))
+    flat::called(state, &mut |state| resampler::reset_mem(state, mem))
 }
 
 // Leaves out the filter's run-in.
 pub fn marshdeck_skip(state: FlatState) -> FlatAnswer
     ensures { result ≡ flat_call state (λ s. skip_told house s) }
 {
-    called(state, &mut |state| resampler::skip_zeros(state))
+    flat::called(state, &mut |state| resampler::skip_zeros(state))
 }
 
 // An f32 as a 16-bit sample.
@@ -117,20 +115,4 @@ pub fn marshdeck_needed(source_hz: u32, target_hz: u32) -> FlatSizes
         history: sizes::history_needed(setting.filt_len),
         coefficients: setting.coefs,
     }
-}
-
-// The answer of a call on the state with these numbers; where no state has them, the call is not made.
-// It is lent, so that a caller knows of its slices that a call that is not made leaves them.
-fn called<F: FnMut(ResamplerState) -> Answer>(state: FlatState, call: &mut F) -> FlatAnswer
-    requires callable { (s : _) → F.pre call.old s }
-    requires fits { (s after : _) → (a : _) → F.step call.old s a after
-        → ((told a).consumed ≤ max_call) × ((told a).written ≤ max_call) }
-    ensures none { is_state state ≡ false → (result ≡ no_state state) × (call.new ≡ call.old) }
-    ensures made { is_state state ≡ true → (a : _) × F.step call.old (state_of state) a call.new
-        × (result ≡ flat_told (told a)) }
-{
-    let Ok(state) = ResamplerState::try_from(state) else {
-        return flat::no_state(state);
-    };
-    flat::flat_answer(call(state))
 }

@@ -4,7 +4,7 @@
 // A flat state may hold any numbers. A kernel above 2 is the one thing in it that no state can hold.
 #![tactic(auto)]
 
-ghost use Rattle.std.specs.Prelude.{◌≡◌, ◌≤◌, IsTrue, OkIff};
+ghost use Rattle.std.specs.Prelude.{◌≡◌, ◌≤◌, true, false, IsTrue, OkIff};
 ghost use Rattle.judge.specs.Refusals.{max_call};
 ghost use Rattle.resampler.specs.Answers.{told};
 ghost use Rattle.recording.specs.Totals.{total_told};
@@ -186,6 +186,23 @@ pub fn flat_answer(answer: Answer) -> FlatAnswer
             state: refused.state.into(),
         },
     }
+}
+
+// The answer of a call on the state with these numbers; where no state has them, the call is not made.
+// It is lent, so that a caller knows of its slices that a call that is not made leaves them.
+// It stands here since it asks that the counts fit: no function of `capi` asks for anything.
+pub fn called<F: FnMut(ResamplerState) -> Answer>(flat: FlatState, call: &mut F) -> FlatAnswer
+    requires callable { (s : _) → F.pre call.old s }
+    requires fits { (s after : _) → (a : _) → F.step call.old s a after
+        → ((told a).consumed ≤ max_call) × ((told a).written ≤ max_call) }
+    ensures none { is_state flat ≡ false → (result ≡ no_state flat) × (call.new ≡ call.old) }
+    ensures made { is_state flat ≡ true → (a : _) × F.step call.old (state_of flat) a call.new
+        × (result ≡ flat_told (told a)) }
+{
+    let Ok(state) = ResamplerState::try_from(flat) else {
+        return no_state(flat);
+    };
+    flat_answer(call(state))
 }
 
 // What a total tells.

@@ -124,8 +124,6 @@ pub fn skip_zeros(state: ResamplerState) -> Answer
 {
     let row = QualityMapping::house();
     judged(judge::judge_skip(row, state), state)?;
-    uncounted(ResamplerState {
-        last_sample: state.filt_len / 2,
-        ..state
-    })
+    let (phase, magic) = (state.samp_frac_num, state.magic_samples);
+    uncounted(state.moved_to(state.started, state.filt_len / 2, phase, magic))
 }

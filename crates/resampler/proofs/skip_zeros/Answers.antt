@@ -22,5 +22,6 @@ returns c =
     let a = c.args in
     rw (
       c.uncounted.ensures,
+      c.moved_to.ensures,
       accepts (λ (row : QualityMapping). skip_verdict row a.state) c.house-row.ensures c.judge_skip.ensures a.state c.judged.ensures c.in_ok-judged.was,
     )
