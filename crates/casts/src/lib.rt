@@ -73,11 +73,18 @@ pub fn narrow(x: f64) -> f32
 }
 
 // The largest whole number that is not above y, as Rust's `y.floor() as usize`: 0 where y is
-// negative or a NaN, and `usize::MAX` from 2^64 on. The library's, under the name of docs/CLAIMS.md.
+// negative or a NaN, and `usize::MAX` from 2^64 on. Not the library's `saturating_f32_to_usize`: the edit
+// `floor_of_one` changes a step of this.
 pub fn floor(y: f32) -> usize
     ensures { result ≡ floor_of y }
 {
-    std::num::saturating_f32_to_usize(y)
+    if y > 0.0 {
+        if y < 18446744073709551616.0 {
+            return std::num::truncating_f32_to_u64(y) as usize;
+        }
+        return usize::MAX;
+    }
+    0
 }
 
 // n as an f32. Up to 2^24 every whole number is one, so nothing is rounded. The bound stays a clause, here

@@ -4,7 +4,7 @@ use mathlib.Core.Bool.{Bool, true, false, not, cond}
 use Prim.Native.Nat.{ℕ, ◌*◌}
 use lib.Dec.{eqb}
 use lib.IntN.{pos}
-use lib.Ieee.{Float, nan, inf, fin, Format, unlike, up, down, round, neg, mul, div}
+use lib.Ieee.{Float, nan, inf, fin, Format, unlike, up, down, round, neg, mul, div, is_nan}
 use Rattle.math.specs.Sign.{magnitude}
 use Rattle.math.proofs.Sign.{round_sign}
 
@@ -21,6 +21,12 @@ unfolding magnitude neg
 magnitude_neg nan = refl
 magnitude_neg (inf s) = refl
 magnitude_neg (fin s m e) = refl
+
+pub real_neg : (x : Float) → is_nan x ≡ false → is_nan (neg x) ≡ false
+unfolding is_nan neg
+real_neg nan h = h
+real_neg (inf s) h = refl
+real_neg (fin s m e) h = refl
 
 -- ---- the sign of a product and a quotient
 unlike_first : (s t : Bool) → unlike (not s) t ≡ not (unlike s t)

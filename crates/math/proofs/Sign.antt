@@ -55,6 +55,15 @@ magnitude_plain nan h = absurd (true≢false h)
 magnitude_plain (inf s) h = refl
 magnitude_plain (fin s m e) h = refl
 
+-- |a| is a times its own sign
+pub own_sign : (a : Float) → times_sign a a ≡ magnitude a
+unfolding times_sign magnitude neg
+own_sign nan = refl
+own_sign (inf true) = refl
+own_sign (inf false) = refl
+own_sign (fin true m e) = refl
+own_sign (fin false m e) = refl
+
 -- ---- the sign in a pattern
 odd_times : (d : ℕ) (s : Bool) (q k l : ℕ) (v : Float) → times_sign (odd d s q k l) v ≡ cond s (neg v) v
 unfolding odd times_sign
