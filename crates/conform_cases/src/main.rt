@@ -2,6 +2,8 @@
 // give, both under data/. Writes the name of each input that gave something else, and then the totals.
 #![tactic(auto)]
 
+ghost use Rattle.std.specs.Prelude.{◌≤◌, length, IfSome};
+
 use conforming::Stopped;
 use std::env::FillError;
 use std::io::Read;
@@ -9,10 +11,18 @@ use std::rt::{Env, Files};
 use std::{fs, str};
 
 // The bytes of a file that come next, as many as there is room for. A file whose reading fails ends
-// there.
-fn read_block<'a, R: Read>(file: &mut R, room: &'a mut [u8]) -> &'a [u8] {
-    let n = conforming::read_full(file, room).unwrap_or_else(|cut| cut.count);
-    &room[..n]
+// there. Not by `conforming::read_full`: one that read too little would find all files the same.
+fn read_block<'a, R: Read>(file: &mut R, room: &'a mut [u8]) -> &'a [u8]
+    ensures { length result.now ≤ length room.old }
+{
+    let mut count = 0;
+    while count < room.len() {
+        match file.read(&mut room[count..]) {
+            Ok(0) | Err(_) => break,
+            Ok(more) => count += more,
+        }
+    }
+    &room[..count]
 }
 
 // Compares a block of each of two files. None where the blocks are the same and more may follow, else
@@ -71,7 +81,9 @@ fn is_right<R: Files + Eprint>(rt: &R, input: Option<R::File>, want: Option<R::F
 }
 
 // Argument i, put at the start of the bytes. None where it is missing or longer.
-fn argument<'a>(rt: &impl Env, i: usize, bytes: &'a mut [u8]) -> Option<&'a [u8]> {
+fn argument<'a>(rt: &impl Env, i: usize, bytes: &'a mut [u8]) -> Option<&'a [u8]>
+    ensures { IfSome result (λ part. length part.now ≤ length bytes.old) }
+{
     let k = rt.arg(i, bytes).ok()?;
     Some(&bytes[..k])
 }

@@ -10,7 +10,7 @@ mod limits;
 mod rated;
 mod text;
 
-ghost use Rattle.std.specs.Prelude.{◌<◌};
+ghost use Rattle.std.specs.Prelude.{◌<◌, ◌≤◌, length};
 
 use std::fs;
 use std::rt::Files;
@@ -56,7 +56,9 @@ fn print_totals(rt: &impl Print, name: &str, n: usize, width: usize, wrong: usiz
 
 // The bytes of a file, read into this room. One that is missing has none, and one whose reading fails
 // ends there.
-fn read_file<'a>(rt: &impl Files, name: &str, room: &'a mut [u8]) -> &'a [u8] {
+fn read_file<'a>(rt: &impl Files, name: &str, room: &'a mut [u8]) -> &'a [u8]
+    ensures { length result.now ≤ length room.old }
+{
     let Ok(mut file) = fs::open(rt, name) else {
         return &[];
     };
