@@ -60,8 +60,7 @@ fn turn<R: Read>(
         Line::Remark => Ok(true),
         Line::Order(order) => {
             player.play(order).map_err(|_| Fault::Unplayable)?;
-            let player = &*player;
-            println!(rt; "{player}").map_err(|_| Fault::Unwritable)?;
+            answer::tell(rt, player)?;
             Ok(true)
         }
     }

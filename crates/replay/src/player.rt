@@ -3,7 +3,7 @@
 // The state is the flat one, so that a script can give it any numbers at all, also a kernel that there is
 // none of.
 use crate::order::{Lent, Order};
-use crate::segment::Samples;
+use crate::segment::{BLOCK, Samples};
 use crate::{Fault, segment};
 use arrayvec::ArrayVec;
 use flat::{FlatAnswer, FlatState};
@@ -119,9 +119,11 @@ fn resize<const N: usize>(
     len: u32,
     filler: f32,
 ) -> Result<(), Fault> {
-    entries.truncate(len as usize);
-    for _ in entries.len()..len as usize {
-        segment::push(entries, filler)?;
+    let len = len as usize;
+    entries.truncate(len);
+    let block = [filler; BLOCK];
+    for done in (entries.len()..len).step_by(BLOCK) {
+        segment::extend(entries, &block[..(len - done).min(BLOCK)])?;
     }
     Ok(())
 }

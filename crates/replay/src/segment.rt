@@ -7,6 +7,9 @@ use std::io::Read;
 // The most samples that a call is given, and the most that it answers.
 pub const MOST_SAMPLES: usize = 16384;
 
+// At most so many entries are made before they are put behind the others: one by one each costs twice as much.
+pub const BLOCK: usize = 64;
+
 // What a line names, in its order.
 pub type Samples = ArrayVec<f32, MOST_SAMPLES>;
 
@@ -75,9 +78,12 @@ fn made<R: Read>(kind: Kind, script: &mut Script<R>, samples: &mut Samples) -> R
         _ => script.decimal()?,
     };
     script.expect_byte(b'*')?;
-    for _ in 0..script.argument()? {
-        x = kind.following(x);
-        push(samples, kind.sample(x))?;
+    let count = script.argument()? as usize;
+    let mut block = [0.0; BLOCK];
+    for done in (0..count).step_by(BLOCK) {
+        let part = &mut block[..(count - done).min(BLOCK)];
+        x = kind.fill(x, part);
+        extend(samples, part)?;
     }
     Ok(())
 }
@@ -87,24 +93,53 @@ pub fn push<const N: usize>(entries: &mut ArrayVec<f32, N>, entry: f32) -> Resul
     entries.try_push(entry).map_err(|_| Fault::BadLine)
 }
 
+// As many entries more. Where there is no room for all of them the line cannot be played.
+pub fn extend<const N: usize>(entries: &mut ArrayVec<f32, N>, part: &[f32]) -> Result<(), Fault> {
+    entries
+        .try_extend_from_slice(part)
+        .map_err(|_| Fault::BadLine)
+}
+
 impl Kind {
-    // The number after x. A constant stays.
-    fn following(self, x: u32) -> u32 {
+    // The entries take what the number x leads to: its own float, over and over, where it is a constant, else the
+    // samples of the numbers that follow it. Answers the last number. The kind is asked once, outside the
+    // loops; the compiler would ask for each sample.
+    fn fill(self, x: u32, entries: &mut [f32]) -> u32 {
         match self {
-            Kind::Constant => x,
-            _ => x.wrapping_mul(1664525).wrapping_add(1013904223),
+            Kind::Constant => {
+                entries.fill(bits::float_of(x));
+                x
+            }
+            Kind::Denormal => draw(x, entries, denormal),
+            Kind::Random => draw(x, entries, random),
+            Kind::Special => draw(x, entries, special),
         }
     }
+}
 
-    // The sample that x stands for. Of the special ones seven in eight are random, and a denormal one is of
-    // either sign.
-    fn sample(self, x: u32) -> f32 {
-        match self {
-            Kind::Constant => bits::float_of(x),
-            Kind::Denormal => bits::float_of((x << 31) | (x >> 9)),
-            Kind::Special if x < 1 << 29 => bits::float_of(SPECIALS[(x >> 25) as usize % 16]),
-            Kind::Random | Kind::Special => random(x),
-        }
+// The entries take the samples of the numbers that follow x. Answers the last of these.
+fn draw<F: Fn(u32) -> f32>(x: u32, entries: &mut [f32], sample: F) -> u32
+    requires { F.IsAlwaysCallable sample }
+{
+    let mut last = x;
+    for entry in entries {
+        last = last.wrapping_mul(1664525).wrapping_add(1013904223);
+        *entry = sample(last);
+    }
+    last
+}
+
+// A denormal sample, of either sign.
+fn denormal(x: u32) -> f32 {
+    bits::float_of((x << 31) | (x >> 9))
+}
+
+// One of the special ones; seven in eight are random.
+fn special(x: u32) -> f32 {
+    if x < 1 << 29 {
+        bits::float_of(SPECIALS[(x >> 25) as usize % 16])
+    } else {
+        random(x)
     }
 }
 
